@@ -1,2 +1,4 @@
 pub mod Scales
+pub mod Houses
+pub mod HouseLoads
 pub mod Meant
