@@ -1,0 +1,9 @@
+use borrow.Author.Needs.{needs}
+use mathlib.Core.Path.{_≡_}
+use native.Mathlib.Omega.{arith}
+use lib.ListN.{length}
+use Rattle.std.proofs.shelf.Lists.{length-take}
+use Rattle.jobs.proofs.cuts.Cuts.count.Needs as need
+
+pub returns : need.returns
+returns c h = let len : length (c .args .self .now .row) ≡ 255 = search needs in simp length-take (omega arith)

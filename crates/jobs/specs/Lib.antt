@@ -1,0 +1,4 @@
+pub mod Cuts
+pub mod Refusals
+pub mod Calls
+pub mod Jobs

@@ -1,0 +1,40 @@
+ghost use Prim.Native.Nat.{_≤_};
+ghost use Rattle.jobs.specs.Cuts.{Rising, Within};
+use crate::cuts::Cuts;
+use costs::Kind;
+use sources::Source;
+
+mod making;
+mod opening;
+
+// Whether a job has been opened.
+#[derive(Clone, Copy, PartialEq, Eq, Debug)]
+pub enum Stage {
+    Shut,
+    Open,
+}
+
+// A plan over a source: its end, its cuts and its total. A shut job has the end 0, no cuts and the total zero.
+#[derive(Drop)]
+pub struct Job<S: Source> {
+    source: S,
+    stage: Stage,
+    end: u32,
+    cuts: Cuts,
+    total: S::Kind,
+    ghost short: { end ≤ 4096 },
+    ghost few: { cuts .used ≤ 255 },
+    ghost rising: { Rising (cuts .row) (cuts .used) },
+    ghost within: { Within (cuts .row) (cuts .used) end },
+}
+
+// What a look shows of an open job.
+#[derive(Clone, Copy)]
+pub struct View<K> {
+    pub end: u32,
+    // the number of cuts
+    pub count: u32,
+    pub total: K,
+    // the cut asked for, where there is one
+    pub cut: Option<u32>,
+}

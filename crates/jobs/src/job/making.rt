@@ -1,0 +1,43 @@
+ghost use mathlib.Core.Path.{_≡_};
+ghost use mathlib.Core.List.{[]};
+ghost use Rattle.std.specs.Options.{mapped};
+ghost use Rattle.jobs.specs.Calls.{shut, shows};
+ghost use Rattle.jobs.specs.Jobs.{state-of, view-of, in-use};
+use crate::cuts::Cuts;
+use crate::job::Job;
+use crate::job::Stage;
+use crate::job::View;
+use costs::Kind;
+use sources::Source;
+
+impl<S: Source> Job<S> {
+    // A shut job over the source.
+    pub fn new(source: S) -> Job<S>
+        ensures state { λ r. ⌜ state-of Kind·Kind r ≡ shut ⌝ }
+        ensures blank { λ r. ⌜ (r .end ≡ 0) × (in-use (r .cuts) ≡ []) × (Kind·Kind .means (r .total) ≡ Kind·Kind .costs .nil) ⌝ }
+        ensures source { λ r. ⌜ r .source ≡ source ⌝ }
+    {
+        Job {
+            source,
+            stage: Stage::Shut,
+            end: 0,
+            cuts: Cuts::none(),
+            total: S::Kind::zero(),
+        }
+    }
+
+    // The end, the number of cuts and the total, and the `k`-th cut, counted from 1; nothing of a shut job.
+    pub fn look(&self, k: u32) -> Option<View<S::Kind>>
+        ensures { λ r. ⌜ mapped (view-of Kind·Kind) r ≡ shows (Kind·Kind .costs) (state-of Kind·Kind (now (self .entry))) k ⌝ }
+    {
+        match self.stage {
+            Stage::Shut => None,
+            Stage::Open => Some(View {
+                end: self.end,
+                count: self.cuts.count(),
+                total: self.total,
+                cut: self.cuts.nth(k),
+            }),
+        }
+    }
+}
