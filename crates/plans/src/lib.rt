@@ -1,6 +1,6 @@
-// Plans: what a plan and a step are, and why a step is right. Each function's contract is a theorem on them, for every kind of cost.
+// Plans: what a plan and a step are, and why a step is right. Each function's contract is a theorem, for every kind of cost.
 ghost use Rattle.plans.specs.Samples.{Steps-of-the-sample};
-ghost use Rattle.plans.specs.Theorems.{Best-plan-exists};
+ghost use Rattle.plans.specs.Theorems.{Best-plan-exists, Plans-interlace, Totals-are-convex, Further-ends};
 use costs::Kind;
 
 // The earliest best plan of a number of cuts and an end exists, and is the only one.
@@ -10,7 +10,28 @@ pub fn best_plan_exists<V: Kind>() -> u8
     0
 }
 
-// The steps of a small scale, computed.
+// At one end, the earliest best plan interlaces with that of one cut more.
+pub fn plans_interlace<V: Kind>() -> u8
+    ensures { λ _. ⌜ Plans-interlace (V·Kind .costs) ⌝ }
+{
+    0
+}
+
+// At one end, a further cut saves no more than the cut before it.
+pub fn totals_are_convex<V: Kind>() -> u8
+    ensures { λ _. ⌜ Totals-are-convex (V·Kind .costs) ⌝ }
+{
+    0
+}
+
+// With as many cuts, a further end moves no cut earlier.
+pub fn further_ends<V: Kind>() -> u8
+    ensures { λ _. ⌜ Further-ends (V·Kind .costs) ⌝ }
+{
+    0
+}
+
+// The steps of a small scale, computed from the definition.
 pub fn steps_of_the_sample() -> u8
     ensures { λ _. ⌜ Steps-of-the-sample ⌝ }
 {
