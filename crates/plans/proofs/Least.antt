@@ -22,7 +22,7 @@ no-later-cons xs ys h rest zero i = h
 no-later-cons xs ys h rest (suc k) i = rest k (omega arith)
 
 -- a plan ends no earlier than it starts
-plan-in : (x e : ℕ) (zs : List ℕ) → Plan x zs e → x ≤ e
+pub plan-in : (x e : ℕ) (zs : List ℕ) → Plan x zs e → x ≤ e
 plan-in x e [] p = p
 plan-in x e (m ∷ zs) p = omega (arith, plan-in m e zs (p .1))
 
@@ -268,12 +268,12 @@ module _ (K : Costs) (s : Scale K) where
       window-from n k e y h i j = θ-rises-both n (top (suc n) k e) y (omega arith) j i
 
       -- with one cut more at the same end, the cut of a number is no later
-      more-earlier : (n k e : ℕ) → n + k ≤ 299 → e ≤ s .last → top n (suc k) e ≤ top n k e
+      pub more-earlier : (n k e : ℕ) → n + k ≤ 299 → e ≤ s .last → top n (suc k) e ≤ top n k e
       more-earlier n zero e h i = θ-to n e
       more-earlier n (suc k) e h i = window-to n k e (top (suc n) (suc k) e) (omega arith) i (more-earlier (suc n) k e (omega arith) i)
 
       -- and the next cut is no earlier
-      more-later : (n k e : ℕ) → n + k ≤ 299 → e ≤ s .last → top n k e ≤ top (suc n) k e
+      pub more-later : (n k e : ℕ) → n + k ≤ 299 → e ≤ s .last → top n k e ≤ top (suc n) k e
       more-later n zero e h i = omega arith
       more-later n (suc k) e h i = window-from n k e (top (suc (suc n)) k e) (omega arith) (omega (arith, top-in (suc (suc n)) k e)) (more-later (suc n) k e (omega arith) i)
 

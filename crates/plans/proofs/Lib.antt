@@ -4,3 +4,6 @@ pub mod Logs
 pub mod Tables
 pub mod Bisections
 pub mod Best
+pub mod Shapes
+pub mod Bounds
+pub mod Rows

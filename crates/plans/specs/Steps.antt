@@ -123,7 +123,11 @@ reached K s [] e = K .nil
 reached K s (r ∷ []) e = via K s r e (earliest (K .le) (via K s r e) (r .from) (r .to - r .from))
 reached K s (r ∷ r′ ∷ rs) e = reached K s (r′ ∷ rs) e
 
--- what a step leaves: the new cuts, their total, the cells of the rows one behind the other, and the number of costs read
+-- the cells of the rows, one row behind the other
+abbrev pub joined-cells : {K : Costs} → List (Row K) → List (K .Cost)
+joined-cells rs = joined (λ r. r .cells) rs
+
+-- what a step leaves: the new cuts, their total, the cells that it fills, and the number of costs that it reads
 pub record Stepped (K : Costs) : Type 0 where
   pub cuts : List ℕ
   pub total : K .Cost
@@ -133,7 +137,7 @@ pub record Stepped (K : Costs) : Type 0 where
 abbrev pub step : (K : Costs) → Scale K → List ℕ → ℕ → Stepped K
 step K s held e =
     let rs = rows K s held e in
-    record { cuts = traced K s rs e; total = reached K s rs e; cells = joined (λ r. r .cells) rs; reads = rows-reads K s held e + traced-reads rs }
+    record { cuts = traced K s rs e; total = reached K s rs e; cells = joined-cells rs; reads = rows-reads K s held e + traced-reads rs }
 
 -- the first cells replaced by the new ones, the others as they were
 abbrev pub over : {C : Type 0} → List C → List C → List C

@@ -1,0 +1,146 @@
+-- A step from the trail of earliest last cuts: its rows hold least totals, and the cuts traced through them are the trail with one cut more.
+use mathlib.Core.Path.{_≡_, refl, sym, _∙_, ap, subst}
+use mathlib.Core.Bool.{true, false, cond}
+use mathlib.Core.Logic.{⊎-elim}
+use mathlib.Core.List.{List, [], _∷_, _++_}
+use Prim.Native.Nat.{ℕ, zero, suc, _+_, _-_, _≤_, _<_}
+use native.Mathlib.Omega.{arith}
+use lib.Dec.{ltb}
+use lib.ListN.{getD}
+use Rattle.std.proofs.shelf.Counted.{getD-map-counting}
+use Rattle.std.proofs.shelf.Tests.{cases-lt, cond-true, cond-false, lt-ltb, le-ltb}
+use Rattle.costs.specs.Costs.{Costs, Laws}
+use Rattle.costs.specs.Limits.{largest}
+use Rattle.sources.specs.Scales.{Scale, Sound}
+use Rattle.plans.specs.Limits.{longest}
+use Rattle.plans.specs.Steps.{Row, via, earliest, found, ends, log2, next, first-row, rows-behind, rows, head-or, traced, reached, step, Stepped}
+use Rattle.plans.proofs.Earliest.{Earliest, narrowed, agreeing, earliest-finds}
+use Rattle.plans.proofs.Bisections.{Wanted, places-right}
+use Rattle.plans.proofs.Least.{S, θ, through, S-zero, S-suc, trail, top, θ-is, θ-to, top-in, θ-rises, window-to, window-from, more-earlier, more-later}
+
+module _ (K : Costs) (s : Scale K) (e : ℕ) where
+  -- the cut before those of `trail n k e`, or 0
+  abbrev base : ℕ → ℕ → ℕ
+  base zero k = 0
+  base (suc n) k = top K s n (suc k) e
+
+  -- row n of a step from the plan with n + k cuts: it lies between two of those cuts, and holds the least totals with n cuts
+  pub record RowOf (n k : ℕ) (r : Row K) : Type 0 where
+    pub from-is : r .from ≡ base n k
+    pub to-is : r .to ≡ top K s n k e
+    pub holds : (p : ℕ) → r .from ≤ p → p ≤ r .to → getD (r .cells) (p - r .from) (K .nil) ≡ S K s n p
+
+  -- the ends of the rows behind it
+  abbrev further : ℕ → ℕ → List ℕ
+  further n zero = []
+  further n (suc k) = top K s (suc n) k e ∷ further (suc n) k
+
+  further-is : (n k : ℕ) → trail K s (suc n) k e ++ e ∷ [] ≡ further n (suc k)
+  further-is n zero = refl
+  further-is n (suc k) = ap (λ cs. top K s (suc n) (suc k) e ∷ cs) (further-is (suc n) k)
+
+  abbrev from-row : ℕ → ℕ → Row K → List (Row K)
+  from-row n k r = r ∷ rows-behind K s r (further n k)
+
+  -- the rows of the step
+  rows-are : (n : ℕ) → rows K s (trail K s 0 n e) e ≡ from-row 0 n (first-row K s (top K s 0 n e))
+  rows-are zero = refl
+  rows-are (suc n) = let r = first-row K s (top K s 0 (suc n) e) in ap (λ cs. r ∷ rows-behind K s r cs) (further-is 0 n)
+
+  first-row-of : (n : ℕ) → RowOf 0 n (first-row K s (top K s 0 n e))
+  first-row-of n =
+      record {
+        from-is = refl;
+        to-is = refl;
+        holds = λ p h i. getD-map-counting (s .cost 0) 0 (suc (top K s 0 n e)) (p - 0) p (K .nil) (omega arith) (omega arith) ∙ sym (S-zero K s p);
+      }
+
+  module _ (L : Laws K) (sound : Sound K s largest) (i : e ≤ s .last) where
+    base-first : (n k y : ℕ) → n + k ≤ 299 → y ≤ s .last → top K s n k e ≤ y → base n k ≤ θ K s n y
+    base-first zero k y h j l = omega arith
+    base-first (suc n) k y h j l = window-from K s L sound n k e y (omega arith) j l
+
+    -- on the way to a place whose last cut lies in the row
+    module _ {n k : ℕ} {r : Row K} (row : RowOf n k r) (few : n + k ≤ 299) (y : ℕ) (j : y ≤ s .last) (l : top K s n k e ≤ y) (m : θ K s n y ≤ top K s n k e) where
+      from-first : r .from ≤ θ K s n y
+      from-first = omega (arith, row .from-is, base-first n k y few j l)
+
+      to-last : θ K s n y ≤ r .to
+      to-last = omega (arith, row .to-is)
+
+      -- that cut is the earliest least place of the row
+      in-row : Earliest K (via K s r y) (r .from) (r .to) (θ K s n y)
+      in-row =
+          agreeing (via K s r y) (narrowed (r .from) (r .to) (θ-is K s L n y) (omega arith) from-first to-last (omega (arith, row .to-is)))
+          (λ p a b. ap (λ c. K .add c (s .cost p y)) (sym (row .holds p a b)))
+
+      -- and the cost by way of it the least total
+      by-row : via K s r y (θ K s n y) ≡ S K s (suc n) y
+      by-row = ap (λ c. K .add c (s .cost (θ K s n y) y)) (row .holds (θ K s n y) from-first to-last) ∙ sym (S-suc K s n y)
+
+    -- ---- the row behind a row
+
+    module _ {n k : ℕ} {r : Row K} (row : RowOf n (suc k) r) (few : n + suc k ≤ 299) (short : e ≤ longest) where
+      abbrev c : ℕ
+      c = top K s (suc n) k e
+
+      abbrev q : ℕ
+      q = c - r .to + 1
+
+      -- the place wanted for each number
+      abbrev want : ℕ → ℕ
+      want zero = r .from
+      want (suc m) = cond (ltb m q) (θ K s n (r .to + m)) (r .to)
+
+      c-in : (r .to ≤ c) × (c ≤ e)
+      c-in = omega (arith, row .to-is, θ-to K s L n c, top-in K s L (suc n) k e)
+
+      -- the places of the row behind have their last cuts in the row
+      reaches : (y : ℕ) → y ≤ c → θ K s n y ≤ top K s n (suc k) e
+      reaches y h = window-to K s L sound n k e y (omega arith) i h
+
+      want-at : (m : ℕ) → m < q → want (suc m) ≡ θ K s n (r .to + m)
+      want-at m h = cond-true _ _ (r .to) (lt-ltb m q h)
+
+      want-past : (m : ℕ) → q ≤ m → want (suc m) ≡ r .to
+      want-past m h = cond-false _ (θ K s n (r .to + m)) _ (le-ltb m q h)
+
+      best-at : (m : ℕ) → m < q → Earliest K (via K s r (r .to + m)) (r .from) (r .to) (θ K s n (r .to + m))
+      best-at m h = in-row row few (r .to + m) (omega (arith, c-in)) (omega (arith, row .to-is)) (reaches (r .to + m) (omega (arith, c-in)))
+
+      rises : (m : ℕ) → want m ≤ want (suc m)
+      rises zero = omega (arith, want-at 0 (omega arith), best-at 0 (omega arith) .from)
+      rises (suc m) =
+          ⊎-elim
+          (λ h. omega (arith, want-at m (omega arith), want-at (suc m) h, θ-rises K s L sound n (r .to + m) (r .to + suc m) (omega arith) (omega arith) (omega (arith, c-in))))
+          (λ h. ⊎-elim
+          (λ g. omega (arith, want-at m g, want-past (suc m) h, best-at m g .to))
+          (λ g. omega (arith, want-past m g, want-past (suc m) h))
+          (cases-lt m q))
+          (cases-lt (suc m) q)
+
+      wanted : Wanted K s r q want
+      wanted = record { first = refl; absent = absent; rises = rises; best = best }
+        where
+          absent : (m : ℕ) → q < m → want m ≡ r .to
+          absent zero h = absurd (omega arith)
+          absent (suc m) h = want-past m (omega arith)
+
+          best : (m : ℕ) → 0 < m → m ≤ q → Earliest K (via K s r (r .to + m - 1)) (r .from) (r .to) (want m)
+          best zero h l = absurd (omega arith)
+          best (suc m) h l =
+              let y : r .to + suc m - 1 ≡ r .to + m = omega arith in
+              rw (y, want-at m (omega arith)) (best-at m (omega arith))
+
+      cell : (p : ℕ) → r .to ≤ p → p ≤ c → getD (next K s r c .cells) (p - r .to) (K .nil) ≡ S K s (suc n) p
+      cell p h l =
+          let m = p - r .to in
+          let at : ℕ → ℕ = found K s r q (suc (log2 12 q)) (ends K s r q) in
+          let y : r .to + m ≡ p = omega arith in
+          let place : at (suc m) ≡ θ K s n p = places-right K s r c (omega (arith, c-in)) L want wanted (suc m) ∙ want-at m (omega arith) ∙ ap (θ K s n) y in
+          getD-map-counting (λ i. via K s r (r .to + i) (at (suc i))) 0 q m m (K .nil) (omega arith) (omega arith)
+          ∙ ap (λ z. via K s r z (at (suc m))) y ∙ ap (via K s r p) place
+          ∙ by-row row few p (omega (arith, c-in)) (omega (arith, row .to-is)) (reaches p l)
+
+      next-row-of : RowOf (suc n) k (next K s r c)
+      next-row-of = record { from-is = row .to-is; to-is = refl; holds = cell }
