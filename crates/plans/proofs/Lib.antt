@@ -7,3 +7,4 @@ pub mod Best
 pub mod Shapes
 pub mod Bounds
 pub mod Rows
+pub mod Climbs

@@ -144,3 +144,30 @@ module _ (K : Costs) (s : Scale K) (e : ℕ) where
 
       next-row-of : RowOf (suc n) k (next K s r c)
       next-row-of = record { from-is = row .to-is; to-is = refl; holds = cell }
+
+    -- ---- the trace
+
+    module _ (short : e ≤ longest) where
+      -- the cuts traced through the rows from row n on are the rest of the plan with one cut more
+      traced-is : (n k : ℕ) {r : Row K} → RowOf n k r → n + k ≤ 299 → traced K s (from-row n k r) e ≡ trail K s n (suc k) e
+      traced-is n zero row few = ap (λ x. x ∷ []) (earliest-finds K L (in-row row few e i (omega arith) (θ-to K s L n e)))
+      traced-is n (suc k) {r} row few =
+          let y = top K s (suc n) (suc k) e in
+          let later = traced-is (suc n) k (next-row-of row few short) (omega arith) in
+          let earlier = more-earlier K s L sound (suc n) k e (omega arith) i in
+          let here = in-row row few y (omega (arith, top-in K s L (suc n) (suc k) e)) (more-later K s L sound n (suc k) e few i) (window-to K s L sound n k e y (omega arith) i earlier) in
+          ap (λ zs. earliest (K .le) (via K s r (head-or e zs)) (r .from) (r .to - r .from) ∷ zs) later ∙ ap (λ x. x ∷ trail K s (suc n) (suc k) e) (earliest-finds K L here)
+
+      -- and the least by way of the last row is the least total with one cut more
+      reached-is : (N n k : ℕ) {r : Row K} → suc n + k ≡ N → RowOf n k r → n + k ≤ 299 → reached K s (from-row n k r) e ≡ S K s N e
+      reached-is N n zero {r} q row few =
+          let m : suc n ≡ N = omega arith in
+          ap (via K s r e) (earliest-finds K L (in-row row few e i (omega arith) (θ-to K s L n e))) ∙ by-row row few e i (omega arith) (θ-to K s L n e) ∙ ap (λ z. S K s z e) m
+      reached-is N n (suc k) q row few = reached-is N (suc n) k (omega arith) (next-row-of row few short) (omega arith)
+
+      -- the whole step
+      pub step-trail : (n : ℕ) → n ≤ 299 → step K s (trail K s 0 n e) e .cuts ≡ trail K s 0 (suc n) e
+      step-trail n h = ap (λ rs. traced K s rs e) (rows-are n) ∙ traced-is 0 n (first-row-of n) (omega arith)
+
+      pub step-least : (n : ℕ) → n ≤ 299 → step K s (trail K s 0 n e) e .total ≡ S K s (suc n) e
+      step-least n h = ap (λ rs. reached K s rs e) (rows-are n) ∙ reached-is (suc n) 0 n (omega arith) (first-row-of n) (omega arith)

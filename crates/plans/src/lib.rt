@@ -1,11 +1,25 @@
 // Plans: what a plan and a step are, and why a step is right. Each function's contract is a theorem, for every kind of cost.
 ghost use Rattle.plans.specs.Samples.{Steps-of-the-sample};
-ghost use Rattle.plans.specs.Theorems.{Best-plan-exists, Plans-interlace, Totals-are-convex, Further-ends};
+ghost use Rattle.plans.specs.Theorems.{Best-plan-exists, A-step-leads-on, Climbing-leads-there, Plans-interlace, Totals-are-convex, Further-ends, Steps-read-little};
 use costs::Kind;
 
 // The earliest best plan of a number of cuts and an end exists, and is the only one.
 pub fn best_plan_exists<V: Kind>() -> u8
     ensures { λ _. ⌜ Best-plan-exists (V·Kind .costs) ⌝ }
+{
+    0
+}
+
+// A step from an earliest best plan leaves the earliest best plan with one cut more, and its total.
+pub fn a_step_leads_on<V: Kind>() -> u8
+    ensures { λ _. ⌜ A-step-leads-on (V·Kind .costs) ⌝ }
+{
+    0
+}
+
+// Stepping up from no cuts leaves the earliest best plan with that many, and its total, whatever cells were lent.
+pub fn climbing_leads_there<V: Kind>() -> u8
+    ensures { λ _. ⌜ Climbing-leads-there (V·Kind .costs) ⌝ }
 {
     0
 }
@@ -27,6 +41,13 @@ pub fn totals_are_convex<V: Kind>() -> u8
 // With as many cuts, a further end moves no cut earlier.
 pub fn further_ends<V: Kind>() -> u8
     ensures { λ _. ⌜ Further-ends (V·Kind .costs) ⌝ }
+{
+    0
+}
+
+// A step to n cuts at the end e reads at most 2 * (e + n) + e * (1 + L) costs, L the largest number with 2 ^ L at most e + 1.
+pub fn steps_read_little<V: Kind>() -> u8
+    ensures { λ _. ⌜ Steps-read-little (V·Kind .costs) ⌝ }
 {
     0
 }
