@@ -13,9 +13,8 @@ use Rattle.plans.specs.Plans.{Plan}
 use Rattle.plans.specs.Steps.{Row, next, next-reads, log2, first-row, rows-behind, behind-reads, traced-reads, step, Stepped}
 use Rattle.plans.specs.Theorems.{Steps-read-little}
 use Rattle.plans.proofs.Bisections.{few-reads}
-use Rattle.plans.proofs.Least.{plan-in}
 use Rattle.plans.proofs.Logs.{log2-low, powers-order}
-use Rattle.plans.proofs.Shapes.{plan-ended}
+use Rattle.plans.proofs.Plans.{plan-in, plan-ended}
 
 module _ (K : Costs) (s : Scale K) (E L : ℕ) (short : E ≤ longest) (small : E + 1 < 2 ^ suc L) where
   -- a row has at most E + 1 places, so it is searched on at most L + 1 levels

@@ -3,7 +3,7 @@ use mathlib.Core.Path.{_≡_, refl, sym, _∙_, ap, subst}
 use mathlib.Core.List.{List, [], _∷_, _++_}
 use Prim.Native.Nat.{ℕ, zero, suc, _+_, _-_, _≤_, _<_}
 use native.Mathlib.Omega.{arith}
-use lib.ListN.{length, drop}
+use lib.ListN.{length, drop, getD}
 use Rattle.std.proofs.shelf.Lists.{drop-drop, drop-at}
 use Rattle.costs.specs.Costs.{Costs, Laws}
 use Rattle.costs.specs.Limits.{largest}
@@ -11,10 +11,11 @@ use Rattle.sources.specs.Scales.{Scale, Sound}
 use Rattle.plans.specs.Limits.{longest, most-cuts}
 use Rattle.plans.specs.Plans.{Plan, total, EarliestBest}
 use Rattle.plans.specs.Steps.{Stepped, step, over, climb}
-use Rattle.plans.specs.Theorems.{A-step-leads-on, Climbing-leads-there}
-use Rattle.plans.proofs.Best.{best-is-trail}
+use Rattle.plans.specs.Theorems.{A-step-leads-on, Cells-are-least, Climbing-leads-there, fenced}
+use Rattle.plans.proofs.Best.{best-is-trail, best-total}
 use Rattle.plans.proofs.Least.{S, S-zero, trail, trail-length, trail-total, trail-best}
-use Rattle.plans.proofs.Rows.{step-trail, step-least}
+use Rattle.plans.proofs.Plans.{plan-under}
+use Rattle.plans.proofs.Rows.{step-trail, step-least, step-cell}
 use Rattle.plans.proofs.Shapes.{step-length, step-plan, step-cells}
 
 -- ---- the cells, whatever the costs are
@@ -72,6 +73,14 @@ a-step-leads-on K L s sound held e h i short b =
     trail-and-total K s L sound (suc n) e _ _ (omega arith) i
     (ap (λ xs. step K s xs e .cuts) t ∙ step-trail K s e L sound i short n (omega arith))
     (ap (λ xs. step K s xs e .total) t ∙ step-least K s e L sound i short n (omega arith))
+
+pub cells-are-least : (K : Costs) → Laws K → Cells-are-least K
+cells-are-least K L s sound held e h i short b j y cuts l m o q c =
+    let n = length held in
+    let t = best-is-trail K s L sound n e held refl (omega arith) i b in
+    ap (λ xs. getD (step K s xs e .cells) (y + j) (K .nil)) t
+    ∙ step-cell K s e L sound i short n j y (omega arith) l (subst (λ xs. getD (fenced xs e) j 0 ≤ y) t m) (subst (λ xs. y ≤ getD (fenced xs e) (suc j) 0) t o)
+    ∙ sym (best-total K s L sound j y cuts q (omega arith) (omega (arith, plan-under 0 e held j (b .plan) l)) c)
 
 pub climbing-leads-there : (K : Costs) → Laws K → Climbing-leads-there K
 climbing-leads-there K L s sound n e cells h i short =

@@ -15,16 +15,7 @@ use Rattle.plans.specs.Steps.{earliest, head-or}
 use Rattle.costs.proofs.Weights.{W, Le, sum-weight}
 use Rattle.costs.proofs.Sums.{Small, small-nil, pair, turn, nil-add, transfer, transfer-left, part-by-part, absorb}
 use Rattle.plans.proofs.Earliest.{Earliest, earliest-is}
-
--- one more cut in front, no later
-no-later-cons : {x y : ℕ} (xs ys : List ℕ) → x ≤ y → NoLater xs ys → NoLater (x ∷ xs) (y ∷ ys)
-no-later-cons xs ys h rest zero i = h
-no-later-cons xs ys h rest (suc k) i = rest k (omega arith)
-
--- a plan ends no earlier than it starts
-pub plan-in : (x e : ℕ) (zs : List ℕ) → Plan x zs e → x ≤ e
-plan-in x e [] p = p
-plan-in x e (m ∷ zs) p = omega (arith, plan-in m e zs (p .1))
+use Rattle.plans.proofs.Plans.{plan-in, no-later-cons}
 
 module _ (K : Costs) (s : Scale K) where
   -- the least total with n cuts at the end y

@@ -6,17 +6,20 @@ use mathlib.Core.List.{List, [], _∷_, _++_}
 use Prim.Native.Nat.{ℕ, zero, suc, _+_, _-_, _≤_, _<_}
 use native.Mathlib.Omega.{arith}
 use lib.Dec.{ltb}
-use lib.ListN.{getD}
+use lib.ListN.{length, getD}
 use Rattle.std.proofs.shelf.Counted.{getD-map-counting}
+use Rattle.std.proofs.shelf.Lists.{getD-append-left, getD-append-right}
 use Rattle.std.proofs.shelf.Tests.{cases-lt, cond-true, cond-false, lt-ltb, le-ltb}
 use Rattle.costs.specs.Costs.{Costs, Laws}
 use Rattle.costs.specs.Limits.{largest}
 use Rattle.sources.specs.Scales.{Scale, Sound}
 use Rattle.plans.specs.Limits.{longest}
-use Rattle.plans.specs.Steps.{Row, via, earliest, found, ends, log2, next, first-row, rows-behind, rows, head-or, traced, reached, step, Stepped}
+use Rattle.plans.specs.Steps.{Row, via, earliest, found, ends, log2, next, first-row, rows-behind, rows, head-or, traced, reached, joined-cells, step, Stepped}
+use Rattle.plans.specs.Theorems.{fenced}
 use Rattle.plans.proofs.Earliest.{Earliest, narrowed, agreeing, earliest-finds}
 use Rattle.plans.proofs.Bisections.{Wanted, places-right}
 use Rattle.plans.proofs.Least.{S, θ, through, S-zero, S-suc, trail, top, θ-is, θ-to, top-in, θ-rises, window-to, window-from, more-earlier, more-later}
+use Rattle.plans.proofs.Shapes.{length-first, length-next}
 
 module _ (K : Costs) (s : Scale K) (e : ℕ) where
   -- the cut before those of `trail n k e`, or 0
@@ -28,6 +31,8 @@ module _ (K : Costs) (s : Scale K) (e : ℕ) where
   pub record RowOf (n k : ℕ) (r : Row K) : Type 0 where
     pub from-is : r .from ≡ base n k
     pub to-is : r .to ≡ top K s n k e
+    pub order : r .from ≤ r .to
+    pub long : length (r .cells) ≡ r .to - r .from + 1
     pub holds : (p : ℕ) → r .from ≤ p → p ≤ r .to → getD (r .cells) (p - r .from) (K .nil) ≡ S K s n p
 
   -- the ends of the rows behind it
@@ -38,6 +43,11 @@ module _ (K : Costs) (s : Scale K) (e : ℕ) where
   further-is : (n k : ℕ) → trail K s (suc n) k e ++ e ∷ [] ≡ further n (suc k)
   further-is n zero = refl
   further-is n (suc k) = ap (λ cs. top K s (suc n) (suc k) e ∷ cs) (further-is (suc n) k)
+
+  -- so the fenced cuts are these
+  fenced-is : (n : ℕ) → fenced (trail K s 0 n e) e ≡ 0 ∷ top K s 0 n e ∷ further 0 n
+  fenced-is zero = refl
+  fenced-is (suc n) = ap (λ cs. 0 ∷ top K s 0 (suc n) e ∷ cs) (further-is 0 n)
 
   abbrev from-row : ℕ → ℕ → Row K → List (Row K)
   from-row n k r = r ∷ rows-behind K s r (further n k)
@@ -52,6 +62,8 @@ module _ (K : Costs) (s : Scale K) (e : ℕ) where
       record {
         from-is = refl;
         to-is = refl;
+        order = omega arith;
+        long = omega (arith, length-first K s (top K s 0 n e));
         holds = λ p h i. getD-map-counting (s .cost 0) 0 (suc (top K s 0 n e)) (p - 0) p (K .nil) (omega arith) (omega arith) ∙ sym (S-zero K s p);
       }
 
@@ -143,7 +155,7 @@ module _ (K : Costs) (s : Scale K) (e : ℕ) where
           ∙ by-row row few p (omega (arith, c-in)) (omega (arith, row .to-is)) (reaches p l)
 
       next-row-of : RowOf (suc n) k (next K s r c)
-      next-row-of = record { from-is = row .to-is; to-is = refl; holds = cell }
+      next-row-of = record { from-is = row .to-is; to-is = refl; order = c-in .0; long = length-next K s r c; holds = cell }
 
     -- ---- the trace
 
@@ -171,3 +183,33 @@ module _ (K : Costs) (s : Scale K) (e : ℕ) where
 
       pub step-least : (n : ℕ) → n ≤ 299 → step K s (trail K s 0 n e) e .total ≡ S K s (suc n) e
       step-least n h = ap (λ rs. reached K s rs e) (rows-are n) ∙ reached-is (suc n) 0 n (omega arith) (first-row-of n) (omega arith)
+
+      -- the cell of the place y in the j-th row from row n on
+      cells-least : (n k j y : ℕ) {r : Row K} → RowOf n k r → n + k ≤ 299 → j ≤ k → getD (r .from ∷ r .to ∷ further n k) j 0 ≤ y → y ≤ getD (r .to ∷ further n k) j 0
+        → (r .from ≤ y) × (getD (joined-cells (from-row n k r)) (y + j - r .from) (K .nil) ≡ S K s (n + j) y)
+      cells-least n k zero y {r} row few h l m =
+          let rest = joined-cells (rows-behind K s r (further n k)) in
+          let at : y + 0 - r .from ≡ y - r .from = omega arith in
+          let same : n ≡ n + 0 = omega arith in (
+            l,
+            ap (λ z. getD (r .cells ++ rest) z (K .nil)) at ∙ getD-append-left (r .cells) rest (K .nil) (y - r .from) (omega (arith, row .long)) ∙ row .holds y l m ∙ ap (λ z. S K s z y) same,
+          )
+      cells-least n zero (suc j) y row few h l m = absurd (omega arith)
+      cells-least n (suc k) (suc j) y {r} row few h l m =
+          let later = cells-least (suc n) k j y (next-row-of row few short) (omega arith) (omega arith) l m in
+          let rest = joined-cells (from-row (suc n) k (next K s r (top K s (suc n) k e))) in
+          let at : y + suc j - r .from - (r .to - r .from + 1) ≡ y + j - r .to = omega (arith, later .0, row .order) in
+          let same : suc n + j ≡ n + suc j = omega arith in (
+            omega (arith, later .0, row .order),
+            getD-append-right (r .cells) rest (r .to - r .from + 1) (y + suc j - r .from) (K .nil) (row .long) (omega (arith, later .0, row .order))
+            ∙ ap (λ z. getD rest z (K .nil)) at ∙ later .1 ∙ ap (λ z. S K s z y) same,
+          )
+
+      pub step-cell : (n i y : ℕ) → n ≤ 299 → i ≤ n → getD (fenced (trail K s 0 n e) e) i 0 ≤ y → y ≤ getD (fenced (trail K s 0 n e) e) (suc i) 0
+        → getD (step K s (trail K s 0 n e) e .cells) (y + i) (K .nil) ≡ S K s i y
+      step-cell n j y h l m o =
+          let cells = joined-cells (from-row 0 n (first-row K s (top K s 0 n e))) in
+          let at : y + j - 0 ≡ y + j = omega arith in
+          let same : 0 + j ≡ j = omega arith in
+          let least = cells-least 0 n j y (first-row-of n) (omega arith) l (subst (λ xs. getD xs j 0 ≤ y) (fenced-is n) m) (subst (λ xs. y ≤ getD xs (suc j) 0) (fenced-is n) o) .1 in
+          ap (λ rs. getD (joined-cells rs) (y + j) (K .nil)) (rows-are n) ∙ ap (λ z. getD cells z (K .nil)) (sym at) ∙ least ∙ ap (λ z. S K s z y) same

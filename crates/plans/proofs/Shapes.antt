@@ -11,11 +11,7 @@ use Rattle.sources.specs.Scales.{Scale}
 use Rattle.plans.specs.Plans.{Plan}
 use Rattle.plans.specs.Steps.{Row, via, earliest, next, first-row, rows-behind, rows, head-or, traced, joined-cells, step, Stepped}
 use Rattle.plans.proofs.Earliest.{earliest-within}
-
--- a plan with its end as one cut more
-pub plan-ended : (x e : ℕ) (xs : List ℕ) → Plan x xs e → Plan x (xs ++ e ∷ []) e
-plan-ended x e [] p = (p, omega arith)
-plan-ended x e (m ∷ xs) p = (p .0, plan-ended m e xs (p .1))
+use Rattle.plans.proofs.Plans.{plan-ended}
 
 module _ (K : Costs) (s : Scale K) where
   -- ---- rows and cells

@@ -1,15 +1,15 @@
 -- What holds of plans and steps on every scale whose costs keep to the largest size and that meets Glebov's condition.
 use mathlib.Core.Path.{_≡_}
-use mathlib.Core.List.{List}
+use mathlib.Core.List.{List, [], _∷_, _++_}
 use Prim.Native.Nat.{ℕ, suc, _+_, _*_, _^_, _≤_, _<_}
 use lib.Dec.{T}
-use lib.ListN.{length}
+use lib.ListN.{length, getD}
 use Rattle.costs.specs.Costs.{Costs}
 use Rattle.costs.specs.Limits.{largest}
 use Rattle.sources.specs.Scales.{Scale, Sound}
 use Rattle.plans.specs.Limits.{longest, most-cuts}
 use Rattle.plans.specs.Plans.{Plan, total, NoLater, EarliestBest, Interlaced}
-use Rattle.plans.specs.Steps.{Stepped, step, climb, over}
+use Rattle.plans.specs.Steps.{Stepped, step, climb}
 
 -- the earliest best plan of a number of cuts and an end exists, and is the only one
 abbrev pub Best-plan-exists : Costs → Type 0
@@ -22,6 +22,17 @@ abbrev pub A-step-leads-on : Costs → Type 0
 A-step-leads-on K =
     (s : Scale K) → Sound K s largest → (held : List ℕ) (e : ℕ) → length held < most-cuts → e ≤ s .last → e ≤ longest → EarliestBest K s e held
     → (length (step K s held e .cuts) ≡ suc (length held)) × EarliestBest K s e (step K s held e .cuts) × (step K s held e .total ≡ total K s 0 (step K s held e .cuts) e)
+
+-- the held cuts, with 0 before them and the end behind them: row i of a step goes from one of these places to the next
+abbrev pub fenced : List ℕ → ℕ → List ℕ
+fenced held e = 0 ∷ (held ++ e ∷ [])
+
+-- the cells of such a step are least totals: in row i, which has i cells more before it than places, the cell of the place y is the total of the earliest best plan with i cuts at y
+abbrev pub Cells-are-least : Costs → Type 0
+Cells-are-least K =
+    (s : Scale K) → Sound K s largest → (held : List ℕ) (e : ℕ) → length held < most-cuts → e ≤ s .last → e ≤ longest → EarliestBest K s e held
+    → (i y : ℕ) (cuts : List ℕ) → i ≤ length held → getD (fenced held e) i 0 ≤ y → y ≤ getD (fenced held e) (suc i) 0 → length cuts ≡ i → EarliestBest K s y cuts
+    → getD (step K s held e .cells) (y + i) (K .nil) ≡ total K s 0 cuts y
 
 -- stepping up from no cuts leaves the earliest best plan with that many, and its total, whatever cells were lent
 abbrev pub Climbing-leads-there : Costs → Type 0

@@ -1,6 +1,6 @@
 // Plans: what a plan and a step are, and why a step is right. Each function's contract is a theorem, for every kind of cost.
 ghost use Rattle.plans.specs.Samples.{Steps-of-the-sample};
-ghost use Rattle.plans.specs.Theorems.{Best-plan-exists, A-step-leads-on, Climbing-leads-there, Plans-interlace, Totals-are-convex, Further-ends, Steps-read-little};
+ghost use Rattle.plans.specs.Theorems.{Best-plan-exists, A-step-leads-on, Cells-are-least, Climbing-leads-there, Plans-interlace, Totals-are-convex, Further-ends, Steps-read-little};
 use costs::Kind;
 
 // The earliest best plan of a number of cuts and an end exists, and is the only one.
@@ -13,6 +13,13 @@ pub fn best_plan_exists<V: Kind>() -> u8
 // A step from an earliest best plan leaves the earliest best plan with one cut more, and its total.
 pub fn a_step_leads_on<V: Kind>() -> u8
     ensures { λ _. ⌜ A-step-leads-on (V·Kind .costs) ⌝ }
+{
+    0
+}
+
+// The cells of such a step are totals of earliest best plans.
+pub fn cells_are_least<V: Kind>() -> u8
+    ensures { λ _. ⌜ Cells-are-least (V·Kind .costs) ⌝ }
 {
     0
 }
