@@ -1,14 +1,14 @@
 -- Earliest best plans: there is one, it is the trail of earliest last cuts, and so such plans compare as the trails do.
 use mathlib.Core.Path.{_≡_, sym, _∙_, ap}
 use mathlib.Core.List.{List}
-use Prim.Native.Nat.{ℕ, suc, _≤_, _<_}
+use Prim.Native.Nat.{ℕ, suc, _≤_}
 use native.Mathlib.Omega.{arith}
-use lib.ListN.{length, getD}
+use lib.ListN.{length}
 use Rattle.std.proofs.shelf.Lists.{ext-getD}
 use Rattle.costs.specs.Costs.{Costs, Laws}
 use Rattle.costs.specs.Limits.{largest}
 use Rattle.sources.specs.Scales.{Scale, Sound}
-use Rattle.plans.specs.Plans.{Plan, total, NoLater, EarliestBest, Interlaced}
+use Rattle.plans.specs.Plans.{total, EarliestBest}
 use Rattle.plans.specs.Theorems.{Best-plan-exists, Plans-interlace, Totals-are-convex, Further-ends}
 use Rattle.plans.proofs.Least.{S, trail, trail-length, trail-total, trail-best, trail-interlaced, trail-further, S-convex}
 

@@ -1,18 +1,17 @@
 -- Where the wanted places never fall, the places found are the wanted ones; and the reads are few, wherever the places lie.
-use mathlib.Core.Path.{_≡_, refl, sym, _∙_, ap, subst}
-use mathlib.Core.Bool.{Bool, true, false}
-use mathlib.Core.Logic.{_⊎_, inl, inr, ⊎-elim}
+use mathlib.Core.Path.{_≡_, refl, sym, _∙_, ap}
+use mathlib.Core.Logic.{⊎-elim}
 use Prim.Native.Nat.{ℕ, zero, suc, _+_, _-_, _*_, _/_, _^_, _≤_, _<_}
 use native.Mathlib.Omega.{arith}
-use native.Mathlib.Nat.{pow-suc, pow-succ', mul-le-mul-right, add-mul, mul-one, suc-mul, zero-mul, div-div-eq-div-mul, div-one, div-eq-of-lt}
+use native.Mathlib.Nat.{pow-suc, pow-succ', mul-le-mul-right, mul-one, suc-mul, zero-mul, div-div-eq-div-mul, div-one}
 use lib.Pow.{pow-pos}
-use Rattle.std.proofs.shelf.Tests.{cases-lt, cases-bool, cond-true, cond-false}
+use Rattle.std.proofs.shelf.Tests.{cases-lt}
 use Rattle.costs.specs.Costs.{Costs, Laws}
 use Rattle.sources.specs.Scales.{Scale}
-use Rattle.plans.specs.Steps.{Row, via, earliest, refined, between-reads, found, searched, ends, log2, next-reads}
+use Rattle.plans.specs.Steps.{Row, via, refined, found, searched, ends, log2, next-reads}
 use Rattle.plans.proofs.Earliest.{Earliest, narrowed, earliest-finds}
 use Rattle.plans.proofs.Logs.{log2-high}
-use Rattle.plans.proofs.Tables.{Rising, ends-rising, by-halves, twice, refined-even, refined-odd, refined-past, refined-rising, refined-absent, telescoped, starts}
+use Rattle.plans.proofs.Tables.{Rising, ends-rising, by-halves, twice, refined-even, refined-odd, refined-past, refined-rising, refined-absent, telescoped}
 
 -- ---- the places found
 

@@ -1,7 +1,7 @@
 -- The reads of a step are few, whatever the costs are.
-use mathlib.Core.Path.{_≡_, sym, _∙_, ap}
+use mathlib.Core.Path.{_≡_, ap}
 use mathlib.Core.List.{List, [], _∷_, _++_}
-use Prim.Native.Nat.{ℕ, zero, suc, _+_, _-_, _*_, _^_, _≤_, _<_}
+use Prim.Native.Nat.{ℕ, suc, _+_, _-_, _*_, _^_, _≤_, _<_}
 use native.Mathlib.Nat.{mul-add, mul-comm, mul-le-mul-left, mul-le-mul-right}
 use native.Mathlib.Omega.{arith}
 use lib.ListN.{length}
@@ -10,7 +10,7 @@ use Rattle.costs.specs.Costs.{Costs}
 use Rattle.sources.specs.Scales.{Scale}
 use Rattle.plans.specs.Limits.{longest}
 use Rattle.plans.specs.Plans.{Plan}
-use Rattle.plans.specs.Steps.{Row, next, next-reads, log2, first-row, rows-behind, behind-reads, traced-reads, step, Stepped}
+use Rattle.plans.specs.Steps.{Row, next, next-reads, log2, first-row, rows-behind, behind-reads, traced-reads}
 use Rattle.plans.specs.Theorems.{Steps-read-little}
 use Rattle.plans.proofs.Bisections.{few-reads}
 use Rattle.plans.proofs.Logs.{log2-low, powers-order}

@@ -1,16 +1,16 @@
 -- Steps lead from one earliest best plan to the next, and so stepping up leads to any of them.
 use mathlib.Core.Path.{_≡_, refl, sym, _∙_, ap, subst}
-use mathlib.Core.List.{List, [], _∷_, _++_}
-use Prim.Native.Nat.{ℕ, zero, suc, _+_, _-_, _≤_, _<_}
+use mathlib.Core.List.{List, _++_}
+use Prim.Native.Nat.{ℕ, zero, suc, _+_, _-_, _≤_}
 use native.Mathlib.Omega.{arith}
 use lib.ListN.{length, drop, getD}
 use Rattle.std.proofs.shelf.Lists.{drop-drop, drop-at}
 use Rattle.costs.specs.Costs.{Costs, Laws}
 use Rattle.costs.specs.Limits.{largest}
 use Rattle.sources.specs.Scales.{Scale, Sound}
-use Rattle.plans.specs.Limits.{longest, most-cuts}
+use Rattle.plans.specs.Limits.{longest}
 use Rattle.plans.specs.Plans.{Plan, total, EarliestBest}
-use Rattle.plans.specs.Steps.{Stepped, step, over, climb}
+use Rattle.plans.specs.Steps.{step, over, climb}
 use Rattle.plans.specs.Theorems.{A-step-leads-on, Cells-are-least, Climbing-leads-there, fenced}
 use Rattle.plans.proofs.Best.{best-is-trail, best-total}
 use Rattle.plans.proofs.Least.{S, S-zero, trail, trail-length, trail-total, trail-best}

@@ -75,7 +75,6 @@ module _ (K : Costs) (s : Scale K) where
     pub θ-first : (n y p : ℕ) → Le K (through n y p) (S (suc n) y) → θ n y ≤ p
     θ-first n y p l = elim (cases-lt p (θ n y)) [ inl m ↦ absurd (θ-is n y .first p (omega arith) m (rw (S-suc n y) at l)) | inr m ↦ m ]
 
-
     -- the cuts lie up to the end, and are a plan
     pub top-in : (n k e : ℕ) → top n k e ≤ e
     top-in n zero e = omega arith
@@ -105,7 +104,7 @@ module _ (K : Costs) (s : Scale K) where
 
       -- two classes cost no more than with their ends exchanged
       pub crossing : (p p′ y y′ : ℕ) → p ≤ p′ → p′ ≤ y → y ≤ y′ → y′ ≤ s .last
-        → Le K (K .add (s .cost p y) (s .cost p′ y′)) (K .add (s .cost p′ y) (s .cost p y′))
+          → Le K (K .add (s .cost p y) (s .cost p′ y′)) (K .add (s .cost p′ y) (s .cost p y′))
       crossing p p′ y y′ h i j k =
           elim (eq-or-lt-of-le h) [ inl e ↦ rw e (L .le-refl _) | inr m ↦ sound .glebov p p′ y y′ m i j k ]
 
@@ -115,17 +114,18 @@ module _ (K : Costs) (s : Scale K) where
           let p = θ n y′ in
           let p′ = θ n y in
           elim (cases-lt p p′) [
-            inr m ↦ m
-          | inl m ↦ θ-first n y p (rw (S-suc n y) (transfer K L (θ-is n y′ .least p′ (omega arith) (omega sizes)) (crossing p p′ y y′ (omega arith) (θ-to n y) i j) (omega sizes))) ]
+            | inr m ↦ m
+            | inl m ↦ θ-first n y p (rw (S-suc n y) (transfer K L (θ-is n y′ .least p′ (omega arith) (omega sizes)) (crossing p p′ y y′ (omega arith) (θ-to n y) i j) (omega sizes)))
+          ]
 
       -- the shift, where the last class up to p′ starts at b, no later than the last cut at p
       shift-crossed : (n p p′ b : ℕ) (before : K .Cost) → n ≤ 298 → p ≤ p′ → p′ ≤ s .last → b ≤ θ n p → Small K before
-        → Le K (S n p) (K .add before (s .cost b p)) → S n p′ ≡ K .add before (s .cost b p′)
-        → Le K (K .add (S n p) (S (suc n) p′)) (K .add (S (suc n) p) (S n p′))
+          → Le K (S n p) (K .add before (s .cost b p)) → S n p′ ≡ K .add before (s .cost b p′)
+          → Le K (K .add (S n p) (S (suc n) p′)) (K .add (S (suc n) p) (S n p′))
       shift-crossed n p p′ b before h i j k w l e =
           let a = θ n p in
           rw (S-suc n p, e)
-            (part-by-part K L l (S-least n p′ a (omega sizes)) (rw (turn K L before (S n a) (omega sizes)) (L .le-refl _)) (crossing b a p p′ k (θ-to n p) i j) (omega sizes))
+          (part-by-part K L l (S-least n p′ a (omega sizes)) (rw (turn K L before (S n a) (omega sizes)) (L .le-refl _)) (crossing b a p p′ k (θ-to n p) i j) (omega sizes))
 
       -- one cut more saves no less at a later end
       pub shift : (n p p′ : ℕ) → n ≤ 298 → p ≤ p′ → p′ ≤ s .last → Le K (K .add (S n p) (S (suc n) p′)) (K .add (S (suc n) p) (S n p′))
@@ -136,9 +136,10 @@ module _ (K : Costs) (s : Scale K) where
           let a = θ (suc n) p in
           let b = θ n p′ in
           elim (cases-lt a b) [
-            inr m ↦ shift-crossed (suc n) p p′ b (S n b) h i j m (omega sizes) (S-least n p b (omega sizes)) (S-suc n p′)
-          | inl m ↦ rw (S-suc (suc n) p, S-suc n p′)
-              (part-by-part K L (S-least n p a (omega sizes)) (S-least (suc n) p′ b (omega sizes)) (shift n a b (omega arith) (omega arith) (omega sizes)) (L .le-refl _) (omega sizes)) ]
+            | inr m ↦ shift-crossed (suc n) p p′ b (S n b) h i j m (omega sizes) (S-least n p b (omega sizes)) (S-suc n p′)
+            | inl m ↦ rw (S-suc (suc n) p, S-suc n p′)
+                (part-by-part K L (S-least n p a (omega sizes)) (S-least (suc n) p′ b (omega sizes)) (shift n a b (omega arith) (omega arith) (omega sizes)) (L .le-refl _) (omega sizes))
+          ]
 
       -- one cut more, a later last cut
       pub θ-rises-more : (n y : ℕ) → n ≤ 298 → y ≤ s .last → θ n y ≤ θ (suc n) y
@@ -146,8 +147,9 @@ module _ (K : Costs) (s : Scale K) where
           let p = θ (suc n) y in
           let p′ = θ n y in
           elim (cases-lt p p′) [
-            inr m ↦ m
-          | inl m ↦ θ-first n y p (rw (S-suc n y) (transfer-left K L (θ-is (suc n) y .least p′ (omega arith) (omega sizes)) (shift n p p′ h (omega arith) (omega sizes)) (omega sizes))) ]
+            | inr m ↦ m
+            | inl m ↦ θ-first n y p (rw (S-suc n y) (transfer-left K L (θ-is (suc n) y .least p′ (omega arith) (omega sizes)) (shift n p p′ h (omega arith) (omega sizes)) (omega sizes)))
+          ]
 
       -- both together
       θ-rises-both : (n y y′ : ℕ) → n ≤ 298 → y ≤ y′ → y′ ≤ s .last → θ n y ≤ θ (suc n) y′
@@ -165,8 +167,11 @@ module _ (K : Costs) (s : Scale K) where
       total-weight : (x e : ℕ) (zs : List ℕ) → Plan x zs e → length zs ≤ 299 → e ≤ s .last → W K (suc (length zs)) (total K s x zs e)
       total-weight x e [] p h i = omega (arith, sound .sizes x e)
       total-weight x e (m ∷ zs) p h i =
-          omega (arith, sum-weight K L (s .cost x m) (total K s m zs e) 1 (suc (length zs))
-            (omega (arith, sound .sizes x m, plan-in m e zs (p .1))) (total-weight m e zs (p .1) (omega arith) i) (omega arith))
+          omega (
+            arith,
+            sum-weight K L (s .cost x m) (total K s m zs e) 1 (suc (length zs))
+                (omega (arith, sound .sizes x m, plan-in m e zs (p .1))) (total-weight m e zs (p .1) (omega arith) i) (omega arith),
+          )
 
       small-total : (x e : ℕ) (zs : List ℕ) → Plan x zs e → length zs ≤ 299 → e ≤ s .last → Small K (total K s x zs e)
       small-total x e zs p h i = omega (arith, total-weight x e zs p h i)
@@ -178,14 +183,14 @@ module _ (K : Costs) (s : Scale K) where
 
       -- to set the cuts before m best is no worse, and if the plan was as good, so was x
       behind : (n x m e : ℕ) (zs : List ℕ) → n ≤ 298 → length zs ≤ 299 → e ≤ s .last → Plan x (m ∷ zs) e
-        → Le K (by-way (suc n) m zs e) (by-way n x (m ∷ zs) e) × (Le K (by-way n x (m ∷ zs) e) (by-way (suc n) m zs e) → Le K (through n m x) (S (suc n) m))
+          → Le K (by-way (suc n) m zs e) (by-way n x (m ∷ zs) e) × (Le K (by-way n x (m ∷ zs) e) (by-way (suc n) m zs e) → Le K (through n m x) (S (suc n) m))
       behind n x m e zs h i j p =
           let best = S (suc n) m in
           let rest = total K s m zs e in
           let m≤e = plan-in m e zs (p .1) in
           let w = small-total m e zs (p .1) i j in
           rw (first-class n x m e zs (omega arith) i j p)
-            (rw (L .add-le best (through n m x) rest (omega (sizes, pair K L))) (S-least n m x (p .0)), λ l. rw (L .add-le (through n m x) best rest (omega (sizes, pair K L))) at l)
+          (rw (L .add-le best (through n m x) rest (omega (sizes, pair K L))) (S-least n m x (p .0)), λ l. rw (L .add-le (through n m x) best rest (omega (sizes, pair K L))) at l)
 
       -- the least total is at most that by way of any place and any plan behind it
       least-from : (N n x e : ℕ) (zs : List ℕ) → suc n + length zs ≡ N → N ≤ 299 → e ≤ s .last → Plan x zs e → Le K (S N e) (by-way n x zs e)
@@ -195,7 +200,7 @@ module _ (K : Costs) (s : Scale K) where
 
       -- where that comes to the least total, the trail has its cuts no later
       earliest-from : (N n x e : ℕ) (zs : List ℕ) → suc n + length zs ≡ N → N ≤ 299 → e ≤ s .last → Plan x zs e → Le K (by-way n x zs e) (S N e)
-        → NoLater (trail n (suc (length zs)) e) (x ∷ zs)
+          → NoLater (trail n (suc (length zs)) e) (x ∷ zs)
       earliest-from N n x e [] q h i p l = let r : N ≡ suc n = omega arith in no-later-cons [] [] (θ-first n e x (rw r at l)) (λ k j. omega arith)
       earliest-from N n x e (m ∷ zs) q h i p l =
           let b = behind n x m e zs (omega arith) (omega arith) i p in
@@ -237,7 +242,8 @@ module _ (K : Costs) (s : Scale K) where
           record {
             plan = trail-plan 0 n e 0 (omega arith);
             least = λ zs q p. let r = q ∙ trail-length 0 n e in rw (trail-total n e h i, ← r) (plan-least e zs (omega arith) i p);
-            earliest = λ zs q p t. let r = q ∙ trail-length 0 n e in rw (← r) (plan-later e zs (omega arith) i p (t ∙ trail-total n e h i ∙ ap (λ m. S m e) (sym r))) }
+            earliest = λ zs q p t. let r = q ∙ trail-length 0 n e in rw (← r) (plan-later e zs (omega arith) i p (t ∙ trail-total n e h i ∙ ap (λ m. S m e) (sym r)));
+          }
 
       -- ---- how the plans of two ends, and of two numbers of cuts, compare
 

@@ -1,6 +1,6 @@
 -- A step from the trail of earliest last cuts: its rows hold least totals, and the cuts traced through them are the trail with one cut more.
 use mathlib.Core.Path.{_≡_, refl, sym, _∙_, ap, subst}
-use mathlib.Core.Bool.{true, false, cond}
+use mathlib.Core.Bool.{cond}
 use mathlib.Core.Logic.{⊎-elim}
 use mathlib.Core.List.{List, [], _∷_, _++_}
 use Prim.Native.Nat.{ℕ, zero, suc, _+_, _-_, _≤_, _<_}
@@ -14,11 +14,11 @@ use Rattle.costs.specs.Costs.{Costs, Laws}
 use Rattle.costs.specs.Limits.{largest}
 use Rattle.sources.specs.Scales.{Scale, Sound}
 use Rattle.plans.specs.Limits.{longest}
-use Rattle.plans.specs.Steps.{Row, via, earliest, found, ends, log2, next, first-row, rows-behind, rows, head-or, traced, reached, joined-cells, step, Stepped}
+use Rattle.plans.specs.Steps.{Row, via, earliest, found, ends, log2, next, first-row, rows-behind, rows, head-or, traced, reached, joined-cells, step}
 use Rattle.plans.specs.Theorems.{fenced}
 use Rattle.plans.proofs.Earliest.{Earliest, narrowed, agreeing, earliest-finds}
 use Rattle.plans.proofs.Bisections.{Wanted, places-right}
-use Rattle.plans.proofs.Least.{S, θ, through, S-zero, S-suc, trail, top, θ-is, θ-to, top-in, θ-rises, window-to, window-from, more-earlier, more-later}
+use Rattle.plans.proofs.Least.{S, θ, S-zero, S-suc, trail, top, θ-is, θ-to, top-in, θ-rises, window-to, window-from, more-earlier, more-later}
 use Rattle.plans.proofs.Shapes.{length-first, length-next}
 
 module _ (K : Costs) (s : Scale K) (e : ℕ) where
@@ -186,7 +186,7 @@ module _ (K : Costs) (s : Scale K) (e : ℕ) where
 
       -- the cell of the place y in the j-th row from row n on
       cells-least : (n k j y : ℕ) {r : Row K} → RowOf n k r → n + k ≤ 299 → j ≤ k → getD (r .from ∷ r .to ∷ further n k) j 0 ≤ y → y ≤ getD (r .to ∷ further n k) j 0
-        → (r .from ≤ y) × (getD (joined-cells (from-row n k r)) (y + j - r .from) (K .nil) ≡ S K s (n + j) y)
+          → (r .from ≤ y) × (getD (joined-cells (from-row n k r)) (y + j - r .from) (K .nil) ≡ S K s (n + j) y)
       cells-least n k zero y {r} row few h l m =
           let rest = joined-cells (rows-behind K s r (further n k)) in
           let at : y + 0 - r .from ≡ y - r .from = omega arith in
@@ -202,11 +202,11 @@ module _ (K : Costs) (s : Scale K) (e : ℕ) where
           let same : suc n + j ≡ n + suc j = omega arith in (
             omega (arith, later .0, row .order),
             getD-append-right (r .cells) rest (r .to - r .from + 1) (y + suc j - r .from) (K .nil) (row .long) (omega (arith, later .0, row .order))
-            ∙ ap (λ z. getD rest z (K .nil)) at ∙ later .1 ∙ ap (λ z. S K s z y) same,
+                ∙ ap (λ z. getD rest z (K .nil)) at ∙ later .1 ∙ ap (λ z. S K s z y) same,
           )
 
       pub step-cell : (n i y : ℕ) → n ≤ 299 → i ≤ n → getD (fenced (trail K s 0 n e) e) i 0 ≤ y → y ≤ getD (fenced (trail K s 0 n e) e) (suc i) 0
-        → getD (step K s (trail K s 0 n e) e .cells) (y + i) (K .nil) ≡ S K s i y
+          → getD (step K s (trail K s 0 n e) e .cells) (y + i) (K .nil) ≡ S K s i y
       step-cell n j y h l m o =
           let cells = joined-cells (from-row 0 n (first-row K s (top K s 0 n e))) in
           let at : y + j - 0 ≡ y + j = omega arith in

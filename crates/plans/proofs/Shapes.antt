@@ -1,7 +1,7 @@
 -- The shape of a step, whatever the costs are: how many rows, cells and cuts it has, and that the new cuts are a plan again.
 use mathlib.Core.Path.{_≡_, refl, _∙_, ap}
 use mathlib.Core.List.{List, [], _∷_, _++_}
-use Prim.Native.Nat.{ℕ, zero, suc, _+_, _-_, _≤_}
+use Prim.Native.Nat.{ℕ, suc, _+_, _-_, _≤_}
 use native.Mathlib.Omega.{arith}
 use lib.ListN.{length}
 use Rattle.std.proofs.shelf.Counted.{length-map-counting}
@@ -9,7 +9,7 @@ use Rattle.std.proofs.shelf.Lists.{length-append, length-push}
 use Rattle.costs.specs.Costs.{Costs}
 use Rattle.sources.specs.Scales.{Scale}
 use Rattle.plans.specs.Plans.{Plan}
-use Rattle.plans.specs.Steps.{Row, via, earliest, next, first-row, rows-behind, rows, head-or, traced, joined-cells, step, Stepped}
+use Rattle.plans.specs.Steps.{Row, via, next, first-row, rows-behind, rows, head-or, traced, joined-cells, step}
 use Rattle.plans.proofs.Earliest.{earliest-within}
 use Rattle.plans.proofs.Plans.{plan-ended}
 

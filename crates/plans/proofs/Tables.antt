@@ -1,19 +1,15 @@
 -- Tables of found places: what a refined table has, that it rises, and the reads of its searches.
-use mathlib.Core.Path.{_≡_, refl, sym, _∙_, ap, subst}
-use mathlib.Core.Logic.{_⊎_, inl, inr, ⊎-elim}
+use mathlib.Core.Path.{_≡_, refl, _∙_, ap}
+use mathlib.Core.Logic.{⊎-elim}
 use mathlib.Core.Bool.{false}
-use mathlib.Core.List.{List}
-use Prim.Native.Nat.{ℕ, zero, suc, _+_, _-_, _*_, _/_, _%_, _^_, _≤_, _<_}
+use Prim.Native.Nat.{ℕ, zero, suc, _+_, _-_, _*_, _/_, _%_, _≤_, _<_}
 use native.Mathlib.Omega.{arith}
-use native.Mathlib.Nat.{add-mul, mul-assoc, mul-comm, zero-mul, mul-le-mul-right}
-use lib.Dec.{eqb, leb}
-use lib.Pow.{pow-mono}
-use lib.ListN.{length, getD, set}
-use Rattle.std.proofs.shelf.Lists.{getD-set-same, getD-set-other}
-use Rattle.std.proofs.shelf.Tests.{cond-true, cond-false, cond-both, eq-eqb, ne-eqb, le-leb, lt-leb, cases-lt}
+use native.Mathlib.Nat.{mul-assoc, mul-comm, mul-le-mul-right}
+use lib.Dec.{eqb}
+use Rattle.std.proofs.shelf.Tests.{cond-true, cond-false, eq-eqb, ne-eqb, le-leb, lt-leb, cases-lt}
 use Rattle.costs.specs.Costs.{Costs}
 use Rattle.sources.specs.Scales.{Scale}
-use Rattle.plans.specs.Steps.{Row, via, earliest, refined, ends, between-reads, log2}
+use Rattle.plans.specs.Steps.{Row, via, earliest, refined, ends, between-reads}
 use Rattle.plans.proofs.Earliest.{earliest-within}
 
 pub by-halves : {P : Type 0} (k : ℕ) → ((i : ℕ) → k ≡ 2 * i → P) → ((i : ℕ) → k ≡ 2 * i + 1 → P) → P

@@ -2,9 +2,8 @@
 use mathlib.Core.Path.{_≡_}
 use mathlib.Core.List.{List, [], _∷_, map}
 use Prim.Native.Nat.{ℕ, _+_, _-_, _*_, _/_}
-use lib.IntN.{ℤ, pos}
+use lib.IntN.{pos}
 use lib.ListN.{getD}
-use Rattle.costs.specs.Costs.{Costs}
 use Rattle.costs.specs.Numbers.{numbers}
 use Rattle.sources.specs.Scales.{Scale}
 use Rattle.plans.specs.Steps.{Stepped, step, climb}

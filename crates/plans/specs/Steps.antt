@@ -1,6 +1,6 @@
 -- One step: from the held cuts to one cut more, with the rows that it fills and the costs that it reads.
 -- It is defined for every list of held cuts that is a plan, and for all costs.
-use mathlib.Core.Bool.{Bool, true, false, cond}
+use mathlib.Core.Bool.{Bool, cond}
 use mathlib.Core.List.{List, [], _∷_, _++_, map}
 use Prim.Native.Nat.{ℕ, zero, suc, _+_, _-_, _*_, _/_, _%_, _^_}
 use lib.Dec.{eqb, leb}

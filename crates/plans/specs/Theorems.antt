@@ -9,7 +9,7 @@ use Rattle.costs.specs.Limits.{largest}
 use Rattle.sources.specs.Scales.{Scale, Sound}
 use Rattle.plans.specs.Limits.{longest, most-cuts}
 use Rattle.plans.specs.Plans.{Plan, total, NoLater, EarliestBest, Interlaced}
-use Rattle.plans.specs.Steps.{Stepped, step, climb}
+use Rattle.plans.specs.Steps.{step, climb}
 
 -- the earliest best plan of a number of cuts and an end exists, and is the only one
 abbrev pub Best-plan-exists : Costs → Type 0
