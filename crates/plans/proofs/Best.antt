@@ -12,17 +12,17 @@ use Rattle.plans.specs.Plans.{total, EarliestBest}
 use Rattle.plans.specs.Theorems.{Best-plan-exists, Plans-interlace, Totals-are-convex, Further-ends}
 use Rattle.plans.proofs.Least.{S, trail, trail-length, trail-total, trail-best, trail-interlaced, trail-further, S-convex}
 
-module _ (K : Costs) (s : Scale K) (L : Laws K) (sound : Sound K s largest) where
-  -- two earliest best plans with as many cuts are the same
-  one-best : (e : ℕ) (xs ys : List ℕ) → length xs ≡ length ys → EarliestBest K s e xs → EarliestBest K s e ys → xs ≡ ys
-  one-best e xs ys q x y =
-      let same = L .le-anti _ _ (x .least ys (sym q) (y .plan)) (y .least xs q (x .plan)) in
-      let early = x .earliest ys (sym q) (y .plan) (sym same) in
-      let late = y .earliest xs q (x .plan) same in
-      ext-getD 0 xs ys q (λ k h. omega (arith, early k h, late k))
+-- two earliest best plans with as many cuts are the same
+pub one-best : (K : Costs) (s : Scale K) → Laws K → (e : ℕ) (xs ys : List ℕ) → length xs ≡ length ys → EarliestBest K s e xs → EarliestBest K s e ys → xs ≡ ys
+one-best K s L e xs ys q x y =
+    let same = L .le-anti _ _ (x .least ys (sym q) (y .plan)) (y .least xs q (x .plan)) in
+    let early = x .earliest ys (sym q) (y .plan) (sym same) in
+    let late = y .earliest xs q (x .plan) same in
+    ext-getD 0 xs ys q (λ k h. omega (arith, early k h, late k))
 
+module _ (K : Costs) (s : Scale K) (L : Laws K) (sound : Sound K s largest) where
   pub best-is-trail : (n e : ℕ) (cuts : List ℕ) → length cuts ≡ n → n ≤ 299 → e ≤ s .last → EarliestBest K s e cuts → cuts ≡ trail K s 0 n e
-  best-is-trail n e cuts q h i b = one-best e cuts (trail K s 0 n e) (q ∙ sym (trail-length K s 0 n e)) b (trail-best K s L sound n e h i)
+  best-is-trail n e cuts q h i b = one-best K s L e cuts (trail K s 0 n e) (q ∙ sym (trail-length K s 0 n e)) b (trail-best K s L sound n e h i)
 
   -- its total is the least one
   pub best-total : (n e : ℕ) (cuts : List ℕ) → length cuts ≡ n → n ≤ 299 → e ≤ s .last → EarliestBest K s e cuts → total K s 0 cuts e ≡ S K s n e

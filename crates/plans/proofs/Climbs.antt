@@ -9,7 +9,7 @@ use Rattle.costs.specs.Costs.{Costs, Laws}
 use Rattle.costs.specs.Limits.{largest}
 use Rattle.sources.specs.Scales.{Scale, Sound}
 use Rattle.plans.specs.Limits.{longest}
-use Rattle.plans.specs.Plans.{Plan, total, EarliestBest}
+use Rattle.plans.specs.Plans.{Plan, BestPlan}
 use Rattle.plans.specs.Steps.{step, over, climb}
 use Rattle.plans.specs.Theorems.{A-step-leads-on, Cells-are-least, Climbing-leads-there, fenced}
 use Rattle.plans.proofs.Best.{best-is-trail, best-total}
@@ -50,7 +50,6 @@ module _ (K : Costs) (s : Scale K) (e : ℕ) (cells : List (K .Cost)) where
 
 -- ---- the plans
 
--- as long as there are cuts to go, the trail stays the trail
 module _ (K : Costs) (s : Scale K) (L : Laws K) (sound : Sound K s largest) (e : ℕ) (i : e ≤ s .last) (short : e ≤ longest) where
   pub climb-trail : (cells : List (K .Cost)) (n : ℕ) → n ≤ 299 → climb K s e n cells .cuts ≡ trail K s 0 n e
   climb-trail cells zero h = refl
@@ -60,17 +59,16 @@ module _ (K : Costs) (s : Scale K) (L : Laws K) (sound : Sound K s largest) (e :
   climb-least cells zero h = sym (S-zero K s e)
   climb-least cells (suc n) h = ap (λ xs. step K s xs e .total) (climb-trail cells n (omega arith)) ∙ step-least K s e L sound i short n (omega arith)
 
--- cuts and a cost that are the trail and the least total are the earliest best plan and its total
-trail-and-total : (K : Costs) (s : Scale K) (L : Laws K) (sound : Sound K s largest) (n e : ℕ) (cuts : List ℕ) (cost : K .Cost) → n ≤ 299 → e ≤ s .last → cuts ≡ trail K s 0 n e → cost ≡ S K s n e
-    → (length cuts ≡ n) × EarliestBest K s e cuts × (cost ≡ total K s 0 cuts e)
-trail-and-total K s L sound n e cuts cost h i p q =
-    rw (p, q) (trail-length K s 0 n e, trail-best K s L sound n e h i, sym (trail-total K s L sound n e h i))
+-- cuts and a cost that are the trail and the least total
+trail-planned : (K : Costs) (s : Scale K) (L : Laws K) (sound : Sound K s largest) (n e : ℕ) (cuts : List ℕ) (cost : K .Cost) → n ≤ 299 → e ≤ s .last → cuts ≡ trail K s 0 n e → cost ≡ S K s n e → BestPlan K s n e cuts cost
+trail-planned K s L sound n e cuts cost h i p q =
+    rw (p, q) (record { number = trail-length K s 0 n e; best = trail-best K s L sound n e h i; cost-is = sym (trail-total K s L sound n e h i) })
 
 pub a-step-leads-on : (K : Costs) → Laws K → A-step-leads-on K
 a-step-leads-on K L s sound held e h i short b =
     let n = length held in
     let t = best-is-trail K s L sound n e held refl (omega arith) i b in
-    trail-and-total K s L sound (suc n) e _ _ (omega arith) i
+    trail-planned K s L sound (suc n) e _ _ (omega arith) i
     (ap (λ xs. step K s xs e .cuts) t ∙ step-trail K s e L sound i short n (omega arith))
     (ap (λ xs. step K s xs e .total) t ∙ step-least K s e L sound i short n (omega arith))
 
@@ -84,4 +82,4 @@ cells-are-least K L s sound held e h i short b j y cuts l m o q c =
 
 pub climbing-leads-there : (K : Costs) → Laws K → Climbing-leads-there K
 climbing-leads-there K L s sound n e cells h i short =
-    trail-and-total K s L sound n e _ _ (omega arith) i (climb-trail K s L sound e i short cells n (omega arith)) (climb-least K s L sound e i short cells n (omega arith))
+    trail-planned K s L sound n e _ _ (omega arith) i (climb-trail K s L sound e i short cells n (omega arith)) (climb-least K s L sound e i short cells n (omega arith))

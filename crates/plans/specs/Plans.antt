@@ -27,6 +27,12 @@ pub record EarliestBest (K : Costs) (s : Scale K) (e : ℕ) (cuts : List ℕ) : 
   pub least : (other : List ℕ) → length other ≡ length cuts → Plan 0 other e → T (K .le (total K s 0 cuts e) (total K s 0 other e))
   pub earliest : (other : List ℕ) → length other ≡ length cuts → Plan 0 other e → total K s 0 other e ≡ total K s 0 cuts e → NoLater cuts other
 
+-- n cuts that are the earliest best plan at the end e, with their total
+pub record BestPlan (K : Costs) (s : Scale K) (n e : ℕ) (cuts : List ℕ) (cost : K .Cost) : Type 0 where
+  pub number : length cuts ≡ n
+  pub best : EarliestBest K s e cuts
+  pub cost-is : cost ≡ total K s 0 cuts e
+
 -- each cut of the first plan lies between the same cut and the next of the second
 abbrev pub Interlaced : List ℕ → List ℕ → Type 0
 Interlaced few more = (k : ℕ) → k < length few → (getD more k 0 ≤ getD few k 0) × (getD few k 0 ≤ getD more (suc k) 0)

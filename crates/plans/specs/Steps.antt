@@ -60,7 +60,7 @@ module _ (K : Costs) (s : Scale K) (above : Row K) (q : ℕ) where
   searched zero p = 0
   searched (suc n) p = between-reads p ((q / 2 ^ n + 1) / 2) + searched n (refined (2 ^ n) p)
 
--- the largest j up to f with 2 ^ j at most q, where q is at least 1
+-- the largest j up to f with 2 ^ j at most q, where q is at least 1; for the places of a row, at most 4,097 of them, an f of 12 is enough
 abbrev pub log2 : ℕ → ℕ → ℕ
 log2 zero q = 0
 log2 (suc f) q = cond (leb (2 ^ suc f) q) (suc f) (log2 f q)

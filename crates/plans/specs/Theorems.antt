@@ -8,7 +8,7 @@ use Rattle.costs.specs.Costs.{Costs}
 use Rattle.costs.specs.Limits.{largest}
 use Rattle.sources.specs.Scales.{Scale, Sound}
 use Rattle.plans.specs.Limits.{longest, most-cuts}
-use Rattle.plans.specs.Plans.{Plan, total, NoLater, EarliestBest, Interlaced}
+use Rattle.plans.specs.Plans.{Plan, total, NoLater, EarliestBest, BestPlan, Interlaced}
 use Rattle.plans.specs.Steps.{step, climb}
 
 -- the earliest best plan of a number of cuts and an end exists, and is the only one
@@ -21,13 +21,13 @@ Best-plan-exists K =
 abbrev pub A-step-leads-on : Costs → Type 0
 A-step-leads-on K =
     (s : Scale K) → Sound K s largest → (held : List ℕ) (e : ℕ) → length held < most-cuts → e ≤ s .last → e ≤ longest → EarliestBest K s e held
-    → (length (step K s held e .cuts) ≡ suc (length held)) × EarliestBest K s e (step K s held e .cuts) × (step K s held e .total ≡ total K s 0 (step K s held e .cuts) e)
+    → BestPlan K s (suc (length held)) e (step K s held e .cuts) (step K s held e .total)
 
 -- the held cuts, with 0 before them and the end behind them: row i of a step goes from one of these places to the next
 abbrev pub fenced : List ℕ → ℕ → List ℕ
 fenced held e = 0 ∷ (held ++ e ∷ [])
 
--- the cells of such a step are least totals: in row i, which has i cells more before it than places, the cell of the place y is the total of the earliest best plan with i cuts at y
+-- the cells of such a step are least totals: the cell of the place y in row i, which is cell y + i, is the total of the earliest best plan with i cuts at the end y
 abbrev pub Cells-are-least : Costs → Type 0
 Cells-are-least K =
     (s : Scale K) → Sound K s largest → (held : List ℕ) (e : ℕ) → length held < most-cuts → e ≤ s .last → e ≤ longest → EarliestBest K s e held
@@ -38,7 +38,7 @@ Cells-are-least K =
 abbrev pub Climbing-leads-there : Costs → Type 0
 Climbing-leads-there K =
     (s : Scale K) → Sound K s largest → (n e : ℕ) (cells : List (K .Cost)) → n ≤ most-cuts → e ≤ s .last → e ≤ longest
-    → (length (climb K s e n cells .cuts) ≡ n) × EarliestBest K s e (climb K s e n cells .cuts) × (climb K s e n cells .total ≡ total K s 0 (climb K s e n cells .cuts) e)
+    → BestPlan K s n e (climb K s e n cells .cuts) (climb K s e n cells .total)
 
 -- at one end, the earliest best plan interlaces with that of one cut more
 abbrev pub Plans-interlace : Costs → Type 0
