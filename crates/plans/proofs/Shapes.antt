@@ -10,6 +10,7 @@ use Rattle.costs.specs.Costs.{Costs}
 use Rattle.sources.specs.Scales.{Scale}
 use Rattle.plans.specs.Plans.{Plan}
 use Rattle.plans.specs.Steps.{Row, via, next, first-row, rows-behind, rows, head-or, traced, joined-cells, step}
+use Rattle.plans.specs.Theorems.{Steps-keep-their-shape}
 use Rattle.plans.proofs.Earliest.{earliest-within}
 use Rattle.plans.proofs.Plans.{plan-ended}
 
@@ -68,3 +69,6 @@ module _ (K : Costs) (s : Scale K) where
   pub step-plan : (held : List ℕ) (e : ℕ) → Plan 0 held e → Plan 0 (step K s held e .cuts) e
   step-plan [] e p = traced-plan (first-row K s e) [] e 0 (omega arith) (omega arith) (omega arith)
   step-plan (x ∷ xs) e p = traced-plan (first-row K s x) (xs ++ e ∷ []) e 0 (omega arith) (p .0) (plan-ended x e xs (p .1))
+
+pub steps-keep-their-shape : (K : Costs) → Steps-keep-their-shape K
+steps-keep-their-shape K s held e p = record { number = step-length K s held e; plan = step-plan K s held e p; filled = step-cells K s held e p }

@@ -9,7 +9,7 @@ use Rattle.costs.specs.Limits.{largest}
 use Rattle.sources.specs.Scales.{Scale, Sound}
 use Rattle.plans.specs.Limits.{longest, most-cuts}
 use Rattle.plans.specs.Plans.{Plan, total, NoLater, EarliestBest, BestPlan, Interlaced}
-use Rattle.plans.specs.Steps.{step, climb}
+use Rattle.plans.specs.Steps.{Stepped, step, climb}
 
 -- the earliest best plan of a number of cuts and an end exists, and is the only one
 abbrev pub Best-plan-exists : Costs → Type 0
@@ -58,6 +58,16 @@ abbrev pub Further-ends : Costs → Type 0
 Further-ends K =
     (s : Scale K) → Sound K s largest → (near far : List ℕ) (e e′ : ℕ) → length near ≡ length far → length far ≤ most-cuts → e ≤ e′ → e′ ≤ s .last
     → EarliestBest K s e near → EarliestBest K s e′ far → NoLater near far
+
+-- what a step from a plan leaves: a plan with one cut more, and a cell for each place up to the end and each new cut
+pub record Shaped (K : Costs) (held : List ℕ) (e : ℕ) (t : Stepped K) : Type 0 where
+  pub number : length (t .cuts) ≡ suc (length held)
+  pub plan : Plan 0 (t .cuts) e
+  pub filled : length (t .cells) ≡ e + suc (length held)
+
+-- it does so whatever the costs are
+abbrev pub Steps-keep-their-shape : Costs → Type 0
+Steps-keep-their-shape K = (s : Scale K) (held : List ℕ) (e : ℕ) → Plan 0 held e → Shaped K held e (step K s held e)
 
 -- a step from any plan to n cuts at the end e reads at most 2 * (e + n) + e * (1 + L) costs, L the largest number with 2 ^ L at most e + 1; whatever the costs are
 abbrev pub Steps-read-little : Costs → Type 0

@@ -1,6 +1,6 @@
 // Plans: what a plan and a step are, and why a step is right. Each function's contract is a theorem, for every kind of cost.
 ghost use Rattle.plans.specs.Samples.{Steps-of-the-sample};
-ghost use Rattle.plans.specs.Theorems.{Best-plan-exists, A-step-leads-on, Cells-are-least, Climbing-leads-there, Plans-interlace, Totals-are-convex, Further-ends, Steps-read-little};
+ghost use Rattle.plans.specs.Theorems.{Best-plan-exists, A-step-leads-on, Cells-are-least, Climbing-leads-there, Plans-interlace, Totals-are-convex, Further-ends, Steps-keep-their-shape, Steps-read-little};
 use costs::Kind;
 
 // The earliest best plan of a number of cuts and an end exists, and is the only one.
@@ -48,6 +48,13 @@ pub fn totals_are_convex<V: Kind>() -> u8
 // With as many cuts, a further end moves no cut earlier.
 pub fn further_ends<V: Kind>() -> u8
     ensures { λ _. ⌜ Further-ends (V·Kind .costs) ⌝ }
+{
+    0
+}
+
+// Whatever the costs are, a step from a plan leaves a plan with one cut more, and a cell for each place up to the end and each new cut.
+pub fn steps_keep_their_shape<V: Kind>() -> u8
+    ensures { λ _. ⌜ Steps-keep-their-shape (V·Kind .costs) ⌝ }
 {
     0
 }
