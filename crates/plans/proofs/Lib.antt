@@ -1,0 +1,11 @@
+pub mod Plans
+pub mod Earliest
+pub mod Least
+pub mod Best
+pub mod Logs
+pub mod Tables
+pub mod Bisections
+pub mod Shapes
+pub mod Rows
+pub mod Climbs
+pub mod Bounds

@@ -1,0 +1,5 @@
+pub mod Limits
+pub mod Plans
+pub mod Steps
+pub mod Theorems
+pub mod Samples
