@@ -14,7 +14,7 @@ parts true true false h = absurd h
 parts true false z h = (tt, λ f. absurd f)
 parts false y z h = absurd h
 
-from-parts : (x y z : Bool) → T x → (T y → T z) → T (x && (not y || z))
+pub from-parts : (x y z : Bool) → T x → (T y → T z) → T (x && (not y || z))
 from-parts true true z h f = f tt
 from-parts true false z h f = tt
 from-parts false y z h f = h

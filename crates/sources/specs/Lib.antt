@@ -1,2 +1,4 @@
 pub mod Scales
 pub mod Meant
+pub mod Layers
+pub mod Replies
