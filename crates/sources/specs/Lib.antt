@@ -2,3 +2,4 @@ pub mod Scales
 pub mod Meant
 pub mod Layers
 pub mod Replies
+pub mod Squares

@@ -2,6 +2,7 @@
 mod joined;
 mod paired;
 mod source;
+mod squares;
 mod turned;
 mod vouching;
 mod window;
@@ -13,6 +14,9 @@ pub use paired::Paired;
 pub use paired::PairedSource;
 pub use paired::PairedVouching;
 pub use source::Source;
+pub use squares::first_broken_square;
+pub use squares::first_too_large;
+pub use squares::squares_decide;
 pub use turned::Turned;
 pub use turned::TurnedSource;
 pub use turned::TurnedVouching;
