@@ -1,3 +1,4 @@
 pub mod Limits
 pub mod Costs
 pub mod Numbers
+pub mod Ranked

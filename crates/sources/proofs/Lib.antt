@@ -1,2 +1,5 @@
 pub mod PriceTable
 pub mod HouseLaws
+pub mod Layers
+pub mod Quadrangles
+pub mod Firsts
