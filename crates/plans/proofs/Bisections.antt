@@ -16,6 +16,7 @@ use Rattle.plans.proofs.Tables.{Rising, ends-rising, by-halves, twice, refined
 -- ---- the places found
 
 module _ (K : Costs) (s : Scale K) (above : Row K) (q : ℕ) where
+  -- a place for each number that never falls, and is the earliest least one of the row
   pub record Wanted (want : ℕ → ℕ) : Type 0 where
     pub first : want 0 ≡ above .from
     pub absent : (m : ℕ) → q < m → want m ≡ above .to
@@ -23,20 +24,21 @@ module _ (K : Costs) (s : Scale K) (above : Row K) (q : ℕ) where
     pub best : (m : ℕ) → 0 < m → m ≤ q → Earliest K (via K s above (above .to + m - 1)) (above .from) (above .to) (want m)
 
   module _ (L : Laws K) (want : ℕ → ℕ) (w : Wanted want) where
-    pub climbs : (m k : ℕ) → want m ≤ want (m + k)
+    climbs : (m k : ℕ) → want m ≤ want (m + k)
     climbs m zero = omega (arith, ap want (add-nil m))
       where
         add-nil : (n : ℕ) → n + 0 ≡ n
         add-nil n = omega arith
     climbs m (suc k) = let e : m + suc k ≡ suc (m + k) = omega arith in omega (arith, climbs m k, w .rises (m + k), ap want e)
 
-    pub never-falls : (m n : ℕ) → m ≤ n → want m ≤ want n
+    never-falls : (m n : ℕ) → m ≤ n → want m ≤ want n
     never-falls m n h = let e : m + (n - m) ≡ n = omega arith in omega (arith, climbs m (n - m), ap want e)
 
-    pub under : (m : ℕ) → want m ≤ above .to
+    under : (m : ℕ) → want m ≤ above .to
     under m = omega (arith, never-falls m (m + suc q) (omega arith), w .absent (m + suc q) (omega arith))
 
-    pub right-more : (d : ℕ) (p : ℕ → ℕ) → 0 < d → ((k : ℕ) → p k ≡ want (k * (2 * d))) → (k : ℕ) → refined K s above q d p k ≡ want (k * d)
+    -- refining a table of wanted places gives one
+    right-more : (d : ℕ) (p : ℕ → ℕ) → 0 < d → ((k : ℕ) → p k ≡ want (k * (2 * d))) → (k : ℕ) → refined K s above q d p k ≡ want (k * d)
     right-more d p pos right k =
         by-halves k
         (λ i e. let f : i * (2 * d) ≡ k * d = sym (ap (λ x. x * d) e ∙ twice i d) in refined-even K s above q d p k i e ∙ right i ∙ ap want f)
@@ -54,13 +56,15 @@ module _ (K : Costs) (s : Scale K) (above : Row K) (q : ℕ) where
         refined-odd K s above q d p k i e h ∙ earliest-finds K L (narrowed (p i) (p (suc i)) b from lo hi to))
         (cases-lt q (k * d)))
 
-    pub found-right : (n : ℕ) (p : ℕ → ℕ) → ((k : ℕ) → p k ≡ want (k * 2 ^ n)) → (m : ℕ) → found K s above q n p m ≡ want m
+    -- so after all levels each place found is the wanted one
+    found-right : (n : ℕ) (p : ℕ → ℕ) → ((k : ℕ) → p k ≡ want (k * 2 ^ n)) → (m : ℕ) → found K s above q n p m ≡ want m
     found-right zero p right m = right m ∙ ap want (mul-one m)
     found-right (suc n) p right m = found-right n (refined K s above q (2 ^ n) p) (right-more (2 ^ n) p (pow-pos n) (λ k. right k ∙ ap (λ x. want (k * x)) (pow-succ' 2 n))) m
 
   -- ---- the reads
 
-  pub reads-few : (n : ℕ) (p : ℕ → ℕ) → Rising (above .from) (above .to) p → ((k : ℕ) → q < k * 2 ^ n → p k ≡ above .to) → searched K s above q n p + q / 2 ^ n ≤ q + n * (above .to - above .from)
+  -- each level reads at most as many places as it has searches, and the width of the row; the searches of all levels are at most q
+  reads-few : (n : ℕ) (p : ℕ → ℕ) → Rising (above .from) (above .to) p → ((k : ℕ) → q < k * 2 ^ n → p k ≡ above .to) → searched K s above q n p + q / 2 ^ n ≤ q + n * (above .to - above .from)
   reads-few zero p r absent = omega (arith, div-one q)
   reads-few (suc n) p r absent =
       let d = 2 ^ n in
@@ -79,6 +83,7 @@ module _ (K : Costs) (s : Scale K) (above : Row K) (c : ℕ) (short : c - above 
   abbrev q : ℕ
   q = c - above .to + 1
 
+  -- the places found are the wanted ones
   pub places-right : Laws K → (want : ℕ → ℕ) → Wanted K s above q want → (m : ℕ) → found K s above q (suc (log2 12 q)) (ends K s above q) m ≡ want m
   places-right L want w = found-right K s above q L want w (suc (log2 12 q)) (ends K s above q) first
     where
@@ -86,6 +91,7 @@ module _ (K : Costs) (s : Scale K) (above : Row K) (c : ℕ) (short : c - above 
       first zero = sym (ap want (zero-mul (2 ^ suc (log2 12 q))) ∙ w .first)
       first (suc k) = sym (w .absent _ (omega (arith, log2-high 12 q short, mul-le-mul-right {m = 1} {n = suc k} (2 ^ suc (log2 12 q)) (omega arith))))
 
+  -- and the reads at most one for each place of the row behind, and the width of the row on each level
   pub few-reads : above .from ≤ above .to → next-reads K s above c ≤ q + suc (log2 12 q) * (above .to - above .from)
   few-reads h = omega (arith, reads-few K s above q (suc (log2 12 q)) (ends K s above q) (ends-rising K s above q h) absent)
     where

@@ -1,4 +1,4 @@
--- What holds of plans and steps on every scale whose costs keep to the largest size and that meets Glebov's condition.
+-- What holds of plans and steps, on every scale that is sound: whose costs keep to the largest size, and that meets Glebov's condition. The last two theorems hold on every scale.
 use mathlib.Core.Path.{_≡_}
 use mathlib.Core.List.{List, [], _∷_, _++_}
 use Prim.Native.Nat.{ℕ, suc, _+_, _*_, _^_, _≤_, _<_}
@@ -69,7 +69,7 @@ pub record Shaped (K : Costs) (held : List ℕ) (e : ℕ) (t : Stepped K) : Type
 abbrev pub Steps-keep-their-shape : Costs → Type 0
 Steps-keep-their-shape K = (s : Scale K) (held : List ℕ) (e : ℕ) → Plan 0 held e → Shaped K held e (step K s held e)
 
--- a step from any plan to n cuts at the end e reads at most 2 * (e + n) + e * (1 + L) costs, L the largest number with 2 ^ L at most e + 1; whatever the costs are
+-- a step from any plan to n cuts at the end e reads at most 2 * (e + n) + e * (1 + L) costs, L the largest number with 2 ^ L at most e + 1
 abbrev pub Steps-read-little : Costs → Type 0
 Steps-read-little K =
     (s : Scale K) (held : List ℕ) (e L : ℕ) → Plan 0 held e → e ≤ longest → 2 ^ L ≤ e + 1 → e + 1 < 2 ^ suc L
