@@ -1,24 +1,25 @@
--- What each call on a job does and answers, for every state.
-use mathlib.Core.Bool.{cond, _&&_}
+-- What each call does to a job and to the cells that it is lent, and what it answers, for every input.
+use mathlib.Core.Bool.{Bool, cond, _&&_}
 use mathlib.Core.List.{List, []}
-use Prim.Native.Nat.{ℕ, _-_}
-use lib.Dec.{leb, ltb}
+use Prim.Native.Nat.{ℕ, suc, _+_, _-_}
+use lib.Dec.{eqb, leb, ltb}
 use lib.ListN.{length, getD}
 use Rattle.std.specs.declared.option.Option.{Option}
 use Rattle.std.specs.declared.option.Option.the-variants.{Some, None}
 use Rattle.costs.specs.Costs.{Costs}
 use Rattle.costs.specs.Limits.{largest}
 use Rattle.sources.specs.Scales.{Scale}
+use Rattle.sources.specs.Squares.{first-large, first-broken}
+use Rattle.plans.specs.Limits.{longest, most-cuts}
+use Rattle.plans.specs.Steps.{Stepped, step, over, climb}
 use Rattle.jobs.specs.declared.call.Call.{Call}
-use Rattle.jobs.specs.declared.call.Call.the-variants.{OpenVouched}
+use Rattle.jobs.specs.declared.call.Call.the-variants.{OpenChecked, OpenVouched, Add, Drop, Reach, Look}
 use Rattle.jobs.specs.declared.refusal.Refusal.{Refusal}
-use Rattle.jobs.specs.declared.refusal.Refusal.the-variants.{TooLong, BoundTooLarge, AlreadyOpen}
+use Rattle.jobs.specs.declared.refusal.Refusal.the-variants.{TooLong, TooLarge, Broken, BoundTooLarge, AlreadyOpen, NotOpen, Full, NoCut, Beyond, TooFewCells}
 
--- the last place that a job takes
-abbrev pub longest : ℕ
-longest = 4096
+-- ---- states and answers
 
--- an open job: its plan and the plan's total
+-- an open job: the end of its plan, the cuts and their total
 pub record Opened (K : Costs) : Type 0 where
   pub end : ℕ
   pub cuts : List ℕ
@@ -28,26 +29,27 @@ pub data State (K : Costs) : Type 0 where
   shut : State K
   opened : Opened K → State K
 
-pub data Answer : Type 0 where
-  refused : Refusal → Answer
-  accepted : Answer
+-- what a look shows of an open job
+pub record Shown (K : Costs) : Type 0 where
+  pub end : ℕ
+  pub count : ℕ
+  pub total : K .Cost
+  pub cut : Option ℕ
+
+pub data Answer (K : Costs) : Type 0 where
+  refused : Refusal → Answer K
+  -- an opening gives no count
+  accepted : Answer K
+  -- the number of costs that were read
+  counted : ℕ → Answer K
+  -- a look at a shut job
+  nothing : Answer K
+  shown : Shown K → Answer K
 
 pub record Outcome (K : Costs) : Type 0 where
   pub state : State K
-  pub answer : Answer
-
-module _ (K : Costs) (s : Scale K) where
-  -- a refusal leaves the state as it is
-  abbrev refuse : State K → Refusal → Outcome K
-  refuse st why = record { state = st; answer = refused why }
-
-  -- an opening sets the last place, no cuts and the cost of the single class
-  abbrev open-now : Outcome K
-  open-now = record { state = opened (record { end = s .last; cuts = []; total = s .cost 0 (s .last) }); answer = accepted }
-
-  abbrev pub does : State K → Call → Outcome K
-  does shut (OpenVouched bound) = cond (leb (s .last) longest) (cond (leb bound largest) open-now (refuse shut BoundTooLarge)) (refuse shut TooLong)
-  does (opened o) (OpenVouched bound) = refuse (opened o) AlreadyOpen
+  pub cells : List (K .Cost)
+  pub answer : Answer K
 
 -- ---- looks
 
@@ -55,13 +57,67 @@ module _ (K : Costs) (s : Scale K) where
 abbrev pub nth-cut : List ℕ → ℕ → Option ℕ
 nth-cut cuts k = cond (ltb 0 k && leb k (length cuts)) (Some (getD cuts (k - 1) 0)) None
 
-pub record Shown (K : Costs) : Type 0 where
-  pub end : ℕ
-  pub count : ℕ
-  pub total : K .Cost
-  pub cut : Option ℕ
+abbrev pub looked : {K : Costs} → Opened K → ℕ → Shown K
+looked o k = record { end = o .end; count = length (o .cuts); total = o .total; cut = nth-cut (o .cuts) k }
 
--- what a look at the k-th cut shows
-abbrev pub shows : (K : Costs) → State K → ℕ → Option (Shown K)
-shows K shut k = None
-shows K (opened o) k = Some (record { end = o .end; count = length (o .cuts); total = o .total; cut = nth-cut (o .cuts) k })
+-- ---- the calls, over the scale s of a source that vouches for this bound
+
+module _ (K : Costs) (s : Scale K) where
+  -- a refusal leaves job and cells as they are
+  abbrev refuse : State K → List (K .Cost) → Refusal → Outcome K
+  refuse st cells why = record { state = st; cells = cells; answer = refused why }
+
+  -- an opening sets the last place, no cuts and the cost of the single class
+  abbrev open-now : List (K .Cost) → Outcome K
+  open-now cells = record { state = opened (record { end = s .last; cuts = []; total = s .cost 0 (s .last) }); cells = cells; answer = accepted }
+
+  abbrev if-no-square : Option (ℕ × ℕ) → List (K .Cost) → Outcome K
+  if-no-square None cells = open-now cells
+  if-no-square (Some at) cells = refuse shut cells (Broken at)
+
+  abbrev if-none-large : Option (ℕ × ℕ) → List (K .Cost) → Outcome K
+  if-none-large None cells = if-no-square (first-broken K s) cells
+  if-none-large (Some at) cells = refuse shut cells (TooLarge at)
+
+  -- a plan with n cuts at the end e needs e + n cells
+  abbrev if-enough : Opened K → ℕ → ℕ → List (K .Cost) → Stepped K → Outcome K
+  if-enough o e n cells t =
+      cond (leb (e + n) (length cells))
+      (record { state = opened (record { end = e; cuts = t .cuts; total = t .total }); cells = t .cells; answer = counted (t .reads) })
+      (refuse (opened o) cells TooFewCells)
+
+  -- one step from the cuts of an open job, into the cells
+  abbrev stepped : Opened K → List (K .Cost) → Stepped K
+  stepped o cells = let t = step K s (o .cuts) (o .end) in record { cuts = t .cuts; total = t .total; cells = over (t .cells) cells; reads = t .reads }
+
+  abbrev pub does : ℕ → State K → Call → List (K .Cost) → Outcome K
+  does bound shut OpenChecked cells = cond (leb (s .last) longest) (if-none-large (first-large K s) cells) (refuse shut cells TooLong)
+  does bound shut OpenVouched cells =
+      cond (leb (s .last) longest) (cond (leb bound largest) (open-now cells) (refuse shut cells BoundTooLarge)) (refuse shut cells TooLong)
+  does bound shut Add cells = refuse shut cells NotOpen
+  does bound shut Drop cells = refuse shut cells NotOpen
+  does bound shut (Reach e) cells = refuse shut cells NotOpen
+  does bound shut (Look k) cells = record { state = shut; cells = cells; answer = nothing }
+  does bound (opened o) OpenChecked cells = refuse (opened o) cells AlreadyOpen
+  does bound (opened o) OpenVouched cells = refuse (opened o) cells AlreadyOpen
+  does bound (opened o) Add cells =
+      let n = length (o .cuts) in
+      cond (ltb n most-cuts) (if-enough o (o .end) (n + 1) cells (stepped o cells)) (refuse (opened o) cells Full)
+  does bound (opened o) Drop cells =
+      let n = length (o .cuts) in
+      cond (ltb 0 n) (if-enough o (o .end) (n - 1) cells (climb K s (o .end) (n - 1) cells)) (refuse (opened o) cells NoCut)
+  does bound (opened o) (Reach e) cells =
+      let n = length (o .cuts) in
+      cond (leb e (s .last)) (if-enough o e n cells (climb K s e n cells)) (refuse (opened o) cells Beyond)
+  does bound (opened o) (Look k) cells = record { state = opened o; cells = cells; answer = shown (looked o k) }
+
+-- ---- which cells a call fills
+
+-- with n cuts at the end e the first e + n, and with no cuts none
+abbrev pub filled : {K : Costs} → State K → Answer K → ℕ
+filled shut a = 0
+filled (opened o) (counted n) = cond (eqb (length (o .cuts)) 0) 0 (o .end + length (o .cuts))
+filled (opened o) (refused why) = 0
+filled (opened o) accepted = 0
+filled (opened o) nothing = 0
+filled (opened o) (shown v) = 0

@@ -1,43 +1,66 @@
--- What a job stands for, and what it is for a call to do as defined.
+-- What the values of the code stand for, and what it is for a call to do as defined.
 use mathlib.Core.Path.{_≡_}
-use mathlib.Core.List.{List}
+use mathlib.Core.List.{List, map}
 use Prim.Native.Nat.{ℕ}
-use lib.ListN.{take}
+use lib.ListN.{take, drop}
+use Rattle.std.specs.declared.option.Option.{Option}
+use Rattle.std.specs.declared.option.Option.the-variants.{Some, None}
 use Rattle.std.specs.declared.result.Result.{Result}
 use Rattle.std.specs.declared.result.Result.the-variants.{Ok, Err}
 use Rattle.costs.specs.declared.kind.Kind as kind
 use Rattle.sources.specs.declared.source.Source as source
 use Rattle.sources.specs.Meant.{meant}
+use Rattle.jobs.specs.declared.answer.Answer.{Answer}
+use Rattle.jobs.specs.declared.answer.Answer.the-variants.{Refused, Accepted, Counted, Nothing, Shown}
+use Rattle.jobs.specs.declared.answer.View.{View}
 use Rattle.jobs.specs.declared.call.Call.{Call}
-use Rattle.jobs.specs.declared.refusal.Refusal.{Refusal}
 use Rattle.jobs.specs.declared.cuts.Cuts.{Cuts}
 use Rattle.jobs.specs.declared.job.Job.{Job}
-use Rattle.jobs.specs.declared.job.View.{View}
 use Rattle.jobs.specs.declared.job.Stage.{Stage}
 use Rattle.jobs.specs.declared.job.Stage.the-variants.{Shut, Open}
-use Rattle.jobs.specs.Calls.{State, shut, opened, Answer, accepted, refused, does, Outcome, Shown}
+use Rattle.jobs.specs.declared.refusal.Refusal.{Refusal}
+use Rattle.jobs.specs.Calls as calls
+use Rattle.jobs.specs.Calls.{State, shut, opened, refused, accepted, counted, nothing, shown, does, filled}
 
 -- the cuts in use
 abbrev pub in-use : Cuts → List ℕ
 in-use c = take (c .used) (c .row)
 
-module _ {V S : Type 0} (k : kind.Ghosts V) where
-  abbrev at-stage : Stage → Job S V → State (k .costs)
-  at-stage Shut j = shut
-  at-stage Open j = opened (record { end = j .end; cuts = in-use (j .cuts); total = k .means (j .total) })
+abbrev at-stage : {V S : Type 0} (k : kind.Ghosts V) → Stage → Job S V → State (k .costs)
+at-stage k Shut j = shut
+at-stage k Open j = opened (record { end = j .end; cuts = in-use (j .cuts); total = k .means (j .total) })
 
-  abbrev pub state-of : Job S V → State (k .costs)
-  state-of j = at-stage (j .stage) j
+abbrev pub state-of : {V S : Type 0} (k : kind.Ghosts V) → Job S V → State (k .costs)
+state-of k j = at-stage k (j .stage) j
 
-abbrev pub view-of : {V : Type 0} (k : kind.Ghosts V) → View V → Shown (k .costs)
+abbrev pub view-of : {V : Type 0} (k : kind.Ghosts V) → View V → calls.Shown (k .costs)
 view-of k v = record { end = v .end; count = v .count; total = k .means (v .total); cut = v .cut }
 
--- what an opening answered
-abbrev pub opening : Result (Unit {0}) Refusal → Answer
-opening (Ok _) = accepted
-opening (Err why) = refused why
+abbrev pub answer-of : {V : Type 0} (k : kind.Ghosts V) → Answer V → calls.Answer (k .costs)
+answer-of k (Refused why) = refused why
+answer-of k Accepted = accepted
+answer-of k (Counted reads) = counted reads
+answer-of k Nothing = nothing
+answer-of k (Shown v) = shown (view-of k v)
 
--- the job `before` was called, and came to `after` with this answer
-pub record Did {V S : Type 0} (k : kind.Ghosts V) (m : source.Ghosts S V) (call : Call) (before after : Job S V) (answer : Answer) : Type 0 where
+-- what an opening answers
+abbrev pub opening : {V : Type 0} (k : kind.Ghosts V) → Result (Unit {0}) Refusal → calls.Answer (k .costs)
+opening k (Ok _) = accepted
+opening k (Err why) = refused why
+
+-- what an add, a drop or a reach answers
+abbrev pub counting : {V : Type 0} (k : kind.Ghosts V) → Result ℕ Refusal → calls.Answer (k .costs)
+counting k (Ok reads) = counted reads
+counting k (Err why) = refused why
+
+-- what a look answers
+abbrev pub looking : {V : Type 0} (k : kind.Ghosts V) → Option (View V) → calls.Answer (k .costs)
+looking k None = nothing
+looking k (Some v) = shown (view-of k v)
+
+-- A call came from the job `before` and the cells `old` to `after` and `new`, with this answer, as is defined.
+-- The cells that it fills are fixed by the costs that they stand for, and the others keep their values.
+pub record Did {V S : Type 0} (k : kind.Ghosts V) (m : source.Ghosts S V) (bound : ℕ) (call : Call) (before after : Job S V) (old new : List V) (answer : calls.Answer (k .costs)) : Type 0 where
   pub source : after .source ≡ before .source
-  pub outcome : record { state = state-of k after; answer = answer } ≡ does (k .costs) (meant k m (before .source)) (state-of k before) call
+  pub outcome : record { state = state-of k after; cells = map (k .means) new; answer = answer } ≡ does (k .costs) (meant k m (before .source)) bound (state-of k before) call (map (k .means) old)
+  pub kept : drop (filled (state-of k after) answer) new ≡ drop (filled (state-of k after) answer) old

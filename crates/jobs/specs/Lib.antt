@@ -1,4 +1,5 @@
 pub mod Cuts
 pub mod Refusals
 pub mod Calls
+pub mod Lives
 pub mod Jobs

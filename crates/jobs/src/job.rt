@@ -27,14 +27,3 @@ pub struct Job<S: Source> {
     ghost rising: { Rising (cuts .row) (cuts .used) },
     ghost within: { Within (cuts .row) (cuts .used) end },
 }
-
-// What a look shows of an open job.
-#[derive(Clone, Copy)]
-pub struct View<K> {
-    pub end: u32,
-    // the number of cuts
-    pub count: u32,
-    pub total: K,
-    // the cut asked for, where there is one
-    pub cut: Option<u32>,
-}

@@ -1,12 +1,13 @@
 ghost use mathlib.Core.Path.{_≡_};
 ghost use mathlib.Core.List.{[]};
-ghost use Rattle.std.specs.Options.{mapped};
-ghost use Rattle.jobs.specs.Calls.{shut, shows};
-ghost use Rattle.jobs.specs.Jobs.{state-of, view-of, in-use};
+ghost use Prim.Native.Nat.{ℕ};
+ghost use Rattle.jobs.specs.Calls.{shut};
+ghost use Rattle.jobs.specs.declared.call.Call.the-variants.{Look};
+ghost use Rattle.jobs.specs.Jobs.{Did, state-of, in-use, looking};
+use crate::answer::View;
 use crate::cuts::Cuts;
 use crate::job::Job;
 use crate::job::Stage;
-use crate::job::View;
 use costs::Kind;
 use sources::Source;
 
@@ -28,7 +29,7 @@ impl<S: Source> Job<S> {
 
     // The end, the number of cuts and the total, and the `k`-th cut, counted from 1; nothing of a shut job.
     pub fn look(&self, k: u32) -> Option<View<S::Kind>>
-        ensures { λ r. ⌜ mapped (view-of Kind·Kind) r ≡ shows (Kind·Kind .costs) (state-of Kind·Kind (now (self .entry))) k ⌝ }
+        ensures { λ r. ⌜ ((bound : ℕ) → Did Kind·Kind S·Source bound (Look k) (now (self .entry)) (now (self .entry)) [] [] (looking Kind·Kind r)) ⌝ }
     {
         match self.stage {
             Stage::Shut => None,

@@ -19,28 +19,6 @@ use sources::Vouching;
 const LONGEST: u32 = 4096;
 
 impl<S: Source> Job<S> {
-    // What a call does depends on the call and on whether the job is shut or open.
-    fn act(&mut self, call: Call) -> Result<(), Refusal>
-        ensures { λ r. ⌜ Did Kind·Kind S·Source call (now (self .entry)) (now (self .exit)) (opening r) ⌝ }
-    {
-        match (self.stage, call) {
-            (Stage::Open, Call::OpenVouched(_)) => Err(Refusal::AlreadyOpen),
-            (Stage::Shut, Call::OpenVouched(bound)) => {
-                let end = self.source.end();
-                if end > LONGEST {
-                    return Err(Refusal::TooLong);
-                }
-                if bound > LARGEST {
-                    return Err(Refusal::BoundTooLarge);
-                }
-                self.open(end);
-                Ok(())
-            }
-        }
-    }
-}
-
-impl<S: Source> Job<S> {
     // Sets the end, no cuts, and the cost of the single class.
     fn open(&mut self, end: u32)
         requires { ⌜ (end ≡ S·Source .last (now self .source)) × (end ≤ 4096) ⌝ }
@@ -51,15 +29,5 @@ impl<S: Source> Job<S> {
         self.cuts = Cuts::none();
         self.end = end;
         self.stage = Stage::Open;
-    }
-}
-
-impl<S: Vouching> Job<S> {
-    // Opens the job on the word of its source.
-    pub fn open_vouched(&mut self) -> Result<(), Refusal>
-        ensures { λ r. ⌜ Did Kind·Kind S·Source (OpenVouched (S·Vouching .vouched (now (self .entry) .source))) (now (self .entry)) (now (self .exit)) (opening r) ⌝ }
-    {
-        let bound = self.source.bound();
-        self.act(Call::OpenVouched(bound))
     }
 }
