@@ -1,1 +1,3 @@
 pub mod InUse
+pub mod PlansInUse
+pub mod Doing

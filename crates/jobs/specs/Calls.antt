@@ -1,7 +1,9 @@
 -- What each call does to a job and to the cells that it is lent, and what it answers, for every input.
-use mathlib.Core.Bool.{Bool, cond, _&&_}
+use mathlib.Core.Path.{_≡_}
+use mathlib.Core.Bool.{cond, _&&_}
+use mathlib.Core.Logic.{_⊎_}
 use mathlib.Core.List.{List, []}
-use Prim.Native.Nat.{ℕ, suc, _+_, _-_}
+use Prim.Native.Nat.{ℕ, _+_, _-_, _≤_, _<_, min}
 use lib.Dec.{eqb, leb, ltb}
 use lib.ListN.{length, getD}
 use Rattle.std.specs.declared.option.Option.{Option}
@@ -64,7 +66,7 @@ looked o k = record { end = o .end; count = length (o .cuts); total = o .total; 
 
 module _ (K : Costs) (s : Scale K) where
   -- a refusal leaves job and cells as they are
-  abbrev refuse : State K → List (K .Cost) → Refusal → Outcome K
+  abbrev pub refuse : State K → List (K .Cost) → Refusal → Outcome K
   refuse st cells why = record { state = st; cells = cells; answer = refused why }
 
   -- an opening sets the last place, no cuts and the cost of the single class
@@ -79,16 +81,19 @@ module _ (K : Costs) (s : Scale K) where
   if-none-large None cells = if-no-square (first-broken K s) cells
   if-none-large (Some at) cells = refuse shut cells (TooLarge at)
 
-  -- a plan with n cuts at the end e needs e + n cells
-  abbrev if-enough : Opened K → ℕ → ℕ → List (K .Cost) → Stepped K → Outcome K
-  if-enough o e n cells t =
-      cond (leb (e + n) (length cells))
+  -- What t defines, with n cuts at the end e. The end may not lie beyond that of the source, nor beyond `longest`, and there must be e + n cells.
+  -- In a life the end of an open job never lies beyond, so that only a reach can be refused for that.
+  abbrev pub planned : Opened K → ℕ → ℕ → List (K .Cost) → Stepped K → Outcome K
+  planned o e n cells t =
+      cond (leb e (min (s .last) longest))
+      (cond (leb (e + n) (length cells))
       (record { state = opened (record { end = e; cuts = t .cuts; total = t .total }); cells = t .cells; answer = counted (t .reads) })
-      (refuse (opened o) cells TooFewCells)
+      (refuse (opened o) cells TooFewCells))
+      (refuse (opened o) cells Beyond)
 
-  -- one step from the cuts of an open job, into the cells
-  abbrev stepped : Opened K → List (K .Cost) → Stepped K
-  stepped o cells = let t = step K s (o .cuts) (o .end) in record { cuts = t .cuts; total = t .total; cells = over (t .cells) cells; reads = t .reads }
+  -- one step from the held cuts at the end e, into the cells
+  abbrev pub stepped : List ℕ → ℕ → List (K .Cost) → Stepped K
+  stepped held e cells = let t = step K s held e in record { cuts = t .cuts; total = t .total; cells = over (t .cells) cells; reads = t .reads }
 
   abbrev pub does : ℕ → State K → Call → List (K .Cost) → Outcome K
   does bound shut OpenChecked cells = cond (leb (s .last) longest) (if-none-large (first-large K s) cells) (refuse shut cells TooLong)
@@ -102,22 +107,27 @@ module _ (K : Costs) (s : Scale K) where
   does bound (opened o) OpenVouched cells = refuse (opened o) cells AlreadyOpen
   does bound (opened o) Add cells =
       let n = length (o .cuts) in
-      cond (ltb n most-cuts) (if-enough o (o .end) (n + 1) cells (stepped o cells)) (refuse (opened o) cells Full)
+      cond (ltb n most-cuts) (planned o (o .end) (n + 1) cells (stepped (o .cuts) (o .end) cells)) (refuse (opened o) cells Full)
   does bound (opened o) Drop cells =
       let n = length (o .cuts) in
-      cond (ltb 0 n) (if-enough o (o .end) (n - 1) cells (climb K s (o .end) (n - 1) cells)) (refuse (opened o) cells NoCut)
-  does bound (opened o) (Reach e) cells =
-      let n = length (o .cuts) in
-      cond (leb e (s .last)) (if-enough o e n cells (climb K s e n cells)) (refuse (opened o) cells Beyond)
+      cond (ltb 0 n) (planned o (o .end) (n - 1) cells (climb K s (o .end) (n - 1) cells)) (refuse (opened o) cells NoCut)
+  does bound (opened o) (Reach e) cells = let n = length (o .cuts) in planned o e n cells (climb K s e n cells)
   does bound (opened o) (Look k) cells = record { state = opened o; cells = cells; answer = shown (looked o k) }
+
+-- why a plan with n cuts at the end e is refused, where the furthest end is given and the number of cells
+abbrev pub No-room : Refusal → ℕ → ℕ → ℕ → ℕ → Type 0
+No-room why furthest e n cells = ((why ≡ Beyond) × (furthest < e)) ⊎ ((why ≡ TooFewCells) × (e ≤ furthest) × (cells < e + n))
 
 -- ---- which cells a call fills
 
 -- with n cuts at the end e the first e + n, and with no cuts none
+abbrev pub touched : ℕ → ℕ → ℕ
+touched e n = cond (eqb n 0) 0 (e + n)
+
 abbrev pub filled : {K : Costs} → State K → Answer K → ℕ
-filled shut a = 0
-filled (opened o) (counted n) = cond (eqb (length (o .cuts)) 0) 0 (o .end + length (o .cuts))
+filled (opened o) (counted reads) = touched (o .end) (length (o .cuts))
 filled (opened o) (refused why) = 0
 filled (opened o) accepted = 0
 filled (opened o) nothing = 0
 filled (opened o) (shown v) = 0
+filled shut a = 0

@@ -7,6 +7,7 @@ use Rattle.std.specs.declared.option.Option.{Option}
 use Rattle.std.specs.declared.option.Option.the-variants.{Some, None}
 use Rattle.std.specs.declared.result.Result.{Result}
 use Rattle.std.specs.declared.result.Result.the-variants.{Ok, Err}
+use Rattle.costs.specs.Costs.{Costs}
 use Rattle.costs.specs.declared.kind.Kind as kind
 use Rattle.sources.specs.declared.source.Source as source
 use Rattle.sources.specs.Meant.{meant}
@@ -20,18 +21,22 @@ use Rattle.jobs.specs.declared.job.Stage.{Stage}
 use Rattle.jobs.specs.declared.job.Stage.the-variants.{Shut, Open}
 use Rattle.jobs.specs.declared.refusal.Refusal.{Refusal}
 use Rattle.jobs.specs.Calls as calls
-use Rattle.jobs.specs.Calls.{State, shut, opened, refused, accepted, counted, nothing, shown, does, filled}
+use Rattle.jobs.specs.Calls.{Opened, State, shut, opened, refused, accepted, counted, nothing, shown, does, filled}
 
 -- the cuts in use
 abbrev pub in-use : Cuts → List ℕ
 in-use c = take (c .used) (c .row)
 
-abbrev at-stage : {V S : Type 0} (k : kind.Ghosts V) → Stage → Job S V → State (k .costs)
-at-stage k Shut j = shut
-at-stage k Open j = opened (record { end = j .end; cuts = in-use (j .cuts); total = k .means (j .total) })
+-- the plan that a job holds
+abbrev pub plan-of : {V S : Type 0} (k : kind.Ghosts V) → Job S V → Opened (k .costs)
+plan-of k j = record { end = j .end; cuts = in-use (j .cuts); total = k .means (j .total) }
+
+abbrev pub at-stage : {K : Costs} → Stage → Opened K → State K
+at-stage Shut o = shut
+at-stage Open o = opened o
 
 abbrev pub state-of : {V S : Type 0} (k : kind.Ghosts V) → Job S V → State (k .costs)
-state-of k j = at-stage k (j .stage) j
+state-of k j = at-stage (j .stage) (plan-of k j)
 
 abbrev pub view-of : {V : Type 0} (k : kind.Ghosts V) → View V → calls.Shown (k .costs)
 view-of k v = record { end = v .end; count = v .count; total = k .means (v .total); cut = v .cut }

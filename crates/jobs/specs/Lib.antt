@@ -3,3 +3,4 @@ pub mod Refusals
 pub mod Calls
 pub mod Lives
 pub mod Jobs
+pub mod Stepping

@@ -4,9 +4,10 @@ use mathlib.Core.List.{List}
 use Prim.Native.Nat.{ℕ, suc, _+_, _*_, _^_, _≤_, _<_}
 use lib.Dec.{T}
 use lib.ListN.{length}
-use Rattle.costs.specs.Costs.{Costs, Laws}
+use Rattle.costs.specs.Costs.{Costs}
 use Rattle.costs.specs.Limits.{largest}
 use Rattle.sources.specs.Scales.{Scale, Sound}
+use Rattle.plans.specs.Limits.{longest, most-cuts}
 use Rattle.plans.specs.Plans.{total, EarliestBest, NoLater, Interlaced}
 use Rattle.jobs.specs.declared.call.Call.{Call}
 use Rattle.jobs.specs.declared.call.Call.the-variants.{Add}
@@ -22,6 +23,10 @@ module _ (K : Costs) (s : Scale K) (bound : ℕ) where
   -- a moment of a life: the job is open
   abbrev pub Moment : Opened K → Type 0
   Moment o = Life K s bound (opened o)
+
+  -- at every moment the end lies on the scale, so that no add or drop of a life is refused for its end
+  abbrev pub Ends-within : Type 0
+  Ends-within = (o : Opened K) → Moment o → (o .end ≤ s .last) × (o .end ≤ longest) × (length (o .cuts) ≤ most-cuts)
 
   -- every moment holds the earliest best plan of its end and number of cuts, with its total
   abbrev pub Moments-are-best : Type 0
@@ -56,6 +61,7 @@ module _ (K : Costs) (s : Scale K) (bound : ℕ) where
 
 -- what holds in every life
 pub record Law (K : Costs) (s : Scale K) (bound : ℕ) : Type 0 where
+  pub within : Ends-within K s bound
   pub best : Moments-are-best K s bound
   pub compare : Moments-compare K s bound
   pub convex : Totals-convex K s bound

@@ -23,7 +23,8 @@ impl Cuts {
     }
 
     pub fn count(&self) -> u32
-        ensures { λ r. ⌜ (now (self .entry) .used ≤ 255 → r ≡ length (in-use (now (self .entry)))) ⌝ }
+        ensures value { λ r. ⌜ r ≡ now (self .entry) .used ⌝ }
+        ensures length { λ r. ⌜ (now (self .entry) .used ≤ 255 → r ≡ length (in-use (now (self .entry)))) ⌝ }
     {
         self.used
     }

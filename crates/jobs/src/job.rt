@@ -4,8 +4,14 @@ use crate::cuts::Cuts;
 use costs::Kind;
 use sources::Source;
 
-mod making;
+mod acting;
+mod calls;
+mod looking;
 mod opening;
+mod planning;
+
+// The furthest end of a job.
+const LONGEST: u32 = 4096;
 
 // Whether a job has been opened.
 #[derive(Clone, Copy, PartialEq, Eq, Debug)]

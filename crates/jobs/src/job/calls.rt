@@ -33,12 +33,7 @@ impl<S: Source> Job<S> {
     {
         match self.stage {
             Stage::Shut => None,
-            Stage::Open => Some(View {
-                end: self.end,
-                count: self.cuts.count(),
-                total: self.total,
-                cut: self.cuts.nth(k),
-            }),
+            Stage::Open => Some(self.view(k)),
         }
     }
 }
