@@ -24,12 +24,20 @@ pub fn step<S: Source>(source: &S, held: &Cuts, end: u32, cells: &mut [S::Kind])
     requires { ⌜ Plan 0 (in-use (now held)) end × (now held .used < 255) × (end ≤ S·Source .last (now source)) × (end ≤ 4096) × (end + now held .used + 1 ≤ length (now cells)) ⌝ }
     ensures { λ r. ⌜ Came Kind·Kind (stepped (Kind·Kind .costs) (meant Kind·Kind S·Source (now (source .entry))) (in-use (now (held .entry))) end (map (Kind·Kind .means) (now (cells .entry)))) (end + now (held .entry) .used + 1) (now (cells .entry)) (now (cells .exit)) r ⌝ }
 {
-    Stepped { cuts: *held, total: S::Kind::zero(), reads: 0 }
+    Stepped {
+        cuts: *held,
+        total: S::Kind::zero(),
+        reads: 0,
+    }
 }
 
 pub fn climb<S: Source>(source: &S, end: u32, count: u32, cells: &mut [S::Kind]) -> Stepped<S::Kind>
     requires { ⌜ (count ≤ 255) × (end ≤ S·Source .last (now source)) × (end ≤ 4096) × (end + count ≤ length (now cells)) ⌝ }
     ensures { λ r. ⌜ Came Kind·Kind (climb (Kind·Kind .costs) (meant Kind·Kind S·Source (now (source .entry))) end count (map (Kind·Kind .means) (now (cells .entry)))) (touched end count) (now (cells .entry)) (now (cells .exit)) r ⌝ }
 {
-    Stepped { cuts: Cuts::none(), total: S::Kind::zero(), reads: 0 }
+    Stepped {
+        cuts: Cuts::none(),
+        total: S::Kind::zero(),
+        reads: 0,
+    }
 }

@@ -11,6 +11,11 @@ impl<S: Source> Job<S> {
     pub(super) fn view(&self, k: u32) -> View<S::Kind>
         ensures { λ r. ⌜ view-of Kind·Kind r ≡ looked (plan-of Kind·Kind (now (self .entry))) k ⌝ }
     {
-        View { end: self.end, count: self.cuts.count(), total: self.total, cut: self.cuts.nth(k) }
+        View {
+            end: self.end,
+            count: self.cuts.count(),
+            total: self.total,
+            cut: self.cuts.nth(k),
+        }
     }
 }
