@@ -1,1 +1,5 @@
 pub mod Fronts
+pub mod Samples
+pub mod Readings
+pub mod Sofar
+pub mod Limits

@@ -21,18 +21,25 @@ abbrev pub read : List ℕ → List Event → ℕ → ℕ → List ℕ → Meani
 read cs es p skip [] = Ok (cs, es)
 read cs es p (suc skip) (b ∷ bs) = read cs es (p + 1) skip bs
 read cs es p zero (b ∷ bs) = elim (front (b ∷ bs)) [
-    None ↦ Err p
+  | None ↦ Err p
   | Some (Count n) ↦ elim es [ [] ↦ read (cs ++ n ∷ []) [] (p + 1) 5 bs | _ ∷ _ ↦ Err p ]
   | Some (Happens e) ↦ read cs (es ++ e ∷ []) (p + 1) (width (Happens e) - 1) bs
-  ]
+]
 
 -- how many bytes a sheet may have
 abbrev pub limit : ℕ
 limit = 32768
 
+-- a longer file is at fault behind its first `limit` bytes, unless one of their records is
+abbrev pub limited : ℕ → Meaning → Meaning
+limited long (Err p) = Err p
+limited long (Ok s) = cond (leb long limit) (Ok s) (Err limit)
+
 -- what the bytes of a file mean
 abbrev pub sheet : List ℕ → Meaning
-sheet bs = elim (read [] [] 0 0 (take limit bs)) [
-    Err p ↦ Err p
-  | Ok s ↦ cond (leb (length bs) limit) (Ok s) (Err limit)
-  ]
+sheet bs = limited (length bs) (read [] [] 0 0 (take limit bs))
+
+-- there is no fault
+abbrev pub Faultless : Meaning → Type 0
+Faultless (Ok s) = Unit {0}
+Faultless (Err p) = ⊥

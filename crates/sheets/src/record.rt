@@ -18,11 +18,17 @@ pub fn first_record(bytes: &[u8]) -> Option<(Record, &[u8])>
     ensures { λ r. ⌜ Cases r (front (now (bytes .entry)) ≡ None) (λ x. (front (now (bytes .entry)) ≡ Some (x .0)) × (now (x .1) ≡ drop (width (x .0)) (now (bytes .entry))) × (length (now (x .1)) + width (x .0) ≡ length (now (bytes .entry)))) ⌝ }
 {
     match bytes {
-        [b'C', b'T', a, b, c, d, rest @ ..] => Some((Record::Count(u32::from_be_bytes([*a, *b, *c, *d])), rest)),
+        [b'C', b'T', a, b, c, d, rest @ ..] => Some((
+            Record::Count(u32::from_be_bytes([*a, *b, *c, *d])),
+            rest,
+        )),
         [b'O', b'P', rest @ ..] => Some((Record::Event(Event::Open), rest)),
         [b'A', b'D', rest @ ..] => Some((Record::Event(Event::Add), rest)),
         [b'D', b'R', rest @ ..] => Some((Record::Event(Event::Drop), rest)),
-        [b'R', b'E', a, b, rest @ ..] => Some((Record::Event(Event::Reach(u16::from_be_bytes([*a, *b]))), rest)),
+        [b'R', b'E', a, b, rest @ ..] => Some((
+            Record::Event(Event::Reach(u16::from_be_bytes([*a, *b]))),
+            rest,
+        )),
         _ => None,
     }
 }
