@@ -3,3 +3,4 @@ pub mod Samples
 pub mod Readings
 pub mod Sofar
 pub mod Limits
+pub mod Fields

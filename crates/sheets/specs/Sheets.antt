@@ -22,7 +22,7 @@ read cs es p skip [] = Ok (cs, es)
 read cs es p (suc skip) (b ∷ bs) = read cs es (p + 1) skip bs
 read cs es p zero (b ∷ bs) = elim (front (b ∷ bs)) [
   | None ↦ Err p
-  | Some (Count n) ↦ elim es [ [] ↦ read (cs ++ n ∷ []) [] (p + 1) 5 bs | _ ∷ _ ↦ Err p ]
+  | Some (Count n) ↦ elim es [ [] ↦ read (cs ++ n ∷ []) [] (p + 1) (width (Count n) - 1) bs | _ ∷ _ ↦ Err p ]
   | Some (Happens e) ↦ read cs (es ++ e ∷ []) (p + 1) (width (Happens e) - 1) bs
 ]
 
