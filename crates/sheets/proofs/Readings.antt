@@ -1,12 +1,11 @@
 -- Reading on behind one record.
-use mathlib.Core.Path.{_≡_, refl, sym, _∙_, ap}
+use mathlib.Core.Path.{_≡_, refl, _∙_, ap}
 use mathlib.Core.List.{List, [], _∷_, _++_}
-use Prim.Native.Nat.{ℕ, zero, suc, _+_, _-_, _≤_, _<_}
+use Prim.Native.Nat.{ℕ, zero, suc, _+_, _-_, _<_}
 use native.Mathlib.Omega.{arith}
 use lib.ListN.{length, drop}
 use Rattle.std.specs.declared.option.Option.the-variants.{Some, None}
 use Rattle.std.specs.declared.result.Result.the-variants.{Ok, Err}
-use Rattle.sheets.specs.declared.record.Record.{Record}
 use Rattle.sheets.specs.declared.record.Record.the-variants.{Count, Event as Happens}
 use Rattle.sheets.specs.declared.sheet.Event.{Event}
 use Rattle.sheets.specs.declared.sheet.Event.the-variants.{Open, Add, Drop, Reach}

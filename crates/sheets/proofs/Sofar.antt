@@ -1,5 +1,5 @@
 -- What the loops of the decoder keep.
-use mathlib.Core.Path.{_≡_, refl, sym, _∙_, ap, subst}
+use mathlib.Core.Path.{_≡_, refl, sym, _∙_, ap}
 use mathlib.Core.Bool.{Bool, true, false}
 use mathlib.Core.List.{List, [], _∷_, _++_}
 use Prim.Native.Nat.{ℕ, _+_, _-_, _≤_, _<_}
@@ -9,7 +9,7 @@ use Rattle.std.proofs.shelf.Lists.{length-push}
 use Rattle.std.specs.Vec.{made}
 use Rattle.std.specs.declared.option.Option.{Option}
 use Rattle.std.specs.declared.option.Option.the-variants.{Some, None}
-use Rattle.std.specs.declared.result.Result.the-variants.{Ok, Err}
+use Rattle.std.specs.declared.result.Result.the-variants.{Err}
 use Rattle.sheets.specs.declared.record.Record.{Record}
 use Rattle.sheets.specs.declared.record.Record.the-variants.{Count, Event as Happens}
 use Rattle.sheets.specs.declared.sheet.Event.{Event}

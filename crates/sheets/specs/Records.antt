@@ -6,7 +6,6 @@ use lib.Dec.{eqb, leb}
 use lib.ListN.{length, getD}
 use Rattle.std.specs.declared.option.Option.{Option}
 use Rattle.std.specs.declared.option.Option.the-variants.{Some, None}
-use Rattle.sheets.specs.declared.sheet.Event.{Event}
 use Rattle.sheets.specs.declared.sheet.Event.the-variants.{Open, Add, Drop, Reach}
 use Rattle.sheets.specs.declared.record.Record.{Record}
 use Rattle.sheets.specs.declared.record.Record.the-variants.{Count, Event as Happens}

@@ -1,4 +1,3 @@
-use native.Mathlib.Omega.{arith}
 use borrow.Author.Needs.{needs}
 use Rattle.sheets.proofs.Sofar.{sound-none, sound-event, sound-count, bad-none, bad-late, sound-all}
 use Rattle.sheets.proofs.decoding.bad_record.Needs as need
