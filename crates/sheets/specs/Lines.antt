@@ -13,9 +13,13 @@ use Rattle.sheets.specs.declared.lines.Report.the-variants.{Done, Refused}
 use Rattle.sheets.specs.declared.sheet.Event.{Event}
 use Rattle.sheets.specs.declared.sheet.Event.the-variants.{Open, Add, Drop, Reach}
 
--- a line: its first field, each further field behind one space, and 0A
+-- fields, each behind one space
+abbrev pub spaced : List (List ℕ) → List ℕ
+spaced fields = joined (λ f. 0x20 ∷ f) fields
+
+-- a line: its first field, the others each behind one space, and 0A
 abbrev pub line : List ℕ → List (List ℕ) → List ℕ
-line first fields = first ++ joined (λ f. 0x20 ∷ f) fields ++ 0x0A ∷ []
+line first fields = first ++ spaced fields ++ 0x0A ∷ []
 
 -- the mark of an event
 abbrev pub mark : Event → List ℕ
@@ -38,7 +42,3 @@ reported (Refused event number) = line (mark event) (decimal number ∷ [])
 -- what is printed of a sheet that is turned down: a fault's number, and its place or index
 abbrev pub faulted : ℕ → ℕ → List ℕ
 faulted number place = line (codes "SHEET") (decimal number ∷ decimal place ∷ [])
-
--- numbers, each behind one space
-abbrev pub follow : List ℕ → List ℕ
-follow ns = joined (λ f. 0x20 ∷ f) (map decimal ns)

@@ -67,6 +67,7 @@ fn bad_record(bytes: &[u8]) -> Option<u32>
     None
 }
 
+// The sheet that faultless bytes hold.
 fn sheet_of(heap: Global, bytes: &[u8]) -> Result<Sheet, AllocError>
     requires { ⌜ Faultless (read [] [] 0 0 (now bytes)) ⌝ }
     ensures { λ r. ⌜ made r (λ s. read [] [] 0 0 (now (bytes .entry)) ≡ Ok (vec-items (s .counts), vec-items (s .events))) ⌝ }

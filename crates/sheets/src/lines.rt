@@ -1,8 +1,10 @@
 // The lines that are printed: one for each event, or one for a sheet that is turned down.
 ghost use mathlib.Core.Path.{_≡_};
+ghost use mathlib.Core.List.{map};
 ghost use Rattle.std.specs.Of.String.{string-bytes};
 ghost use Rattle.std.specs.Vec.{made};
-ghost use Rattle.sheets.specs.Lines.{mark, reported, faulted, follow, counted};
+ghost use Rattle.std.specs.Written.{decimal};
+ghost use Rattle.sheets.specs.Lines.{spaced, mark, counted, reported, faulted};
 use crate::sheet::Event;
 use std::alloc::AllocError;
 use std::alloc::Global;
@@ -55,6 +57,7 @@ pub fn fault_line(heap: Global, number: u8, place: u32) -> Result<String, AllocE
     format!(heap, "SHEET {number} {place}\n")
 }
 
+// The mark of an event, as a sheet has it.
 fn mark_of(event: Event) -> &'static str
     ensures { λ r. ⌜ now r ≡ mark event ⌝ }
 {
@@ -66,6 +69,7 @@ fn mark_of(event: Event) -> &'static str
     }
 }
 
+// The number of reads, or a dash.
 fn reads_text(heap: Global, reads: Option<u64>) -> Result<String, AllocError>
     ensures { λ r. ⌜ made r (λ s. string-bytes s ≡ counted reads) ⌝ }
 {
@@ -77,7 +81,7 @@ fn reads_text(heap: Global, reads: Option<u64>) -> Result<String, AllocError>
 
 // Each cut behind a space.
 fn cuts_text(heap: Global, cuts: &[u32]) -> Result<String, AllocError>
-    ensures { λ r. ⌜ made r (λ s. string-bytes s ≡ follow (now (cuts .entry))) ⌝ }
+    ensures { λ r. ⌜ made r (λ s. string-bytes s ≡ spaced (map decimal (now (cuts .entry)))) ⌝ }
 {
     let mut text = String::new(heap);
     for cut in cuts {

@@ -1,10 +1,10 @@
 use mathlib.Core.Path.{_≡_, _∙_, sym, ap}
-use mathlib.Core.List.{[], _∷_, _++_}
+use mathlib.Core.List.{[], _∷_, _++_, map}
 use lib.Chars.{codes}
 use Rattle.std.proofs.shelf.Results.{made-weaker}
 use Rattle.std.specs.Of.String.{string-bytes}
 use Rattle.std.specs.Written.{decimal, signed}
-use Rattle.sheets.specs.Lines.{reported, line, follow}
+use Rattle.sheets.specs.Lines.{spaced, line, reported}
 use Rattle.sheets.proofs.Fields.{line-one, done-line}
 use Rattle.sheets.proofs.lines.line.Needs as need
 
@@ -18,7 +18,7 @@ returns-in-Continue-cuts c =
     made-weaker (c .format .result)
     (λ s. string-bytes s ≡ m ++ (codes " 0 " ++ (decimal (d .end) ++ (codes " " ++ (decimal u ++ (codes " " ++ (signed (d .total) ++ (codes " " ++ (r ++ (cs ++ codes "\n"))))))))))
     (λ s. string-bytes s ≡ reported (c .args .report .now))
-    (λ s e. e ∙ done-line (d .event) (d .end) (d .total) (d .reads) (d .cuts) u m r cs (c .mark-of-mark .ensures) (c .len-used .ensures) (c .in-Continue-reads .ensures tt) (c .in-Continue-cuts .ensures tt ∙ ap follow (c .deref .ensures .value)) ∙ sym (ap reported (d .is)))
+    (λ s e. e ∙ done-line (d .event) (d .end) (d .total) (d .reads) (d .cuts) u m r cs (c .mark-of-mark .ensures) (c .len-used .ensures) (c .in-Continue-reads .ensures tt) (c .in-Continue-cuts .ensures tt ∙ ap (λ l. spaced (map decimal l)) (c .deref .ensures .value)) ∙ sym (ap reported (d .is)))
     (c .format .ensures .made)
 
 pub returns-in-Refused : need.returns-in-Refused
