@@ -1,0 +1,6 @@
+pub mod Fronts
+pub mod Samples
+pub mod Readings
+pub mod Sofar
+pub mod Limits
+pub mod Fields

@@ -1,0 +1,4 @@
+pub mod Records
+pub mod Sheets
+pub mod Faults
+pub mod Lines
