@@ -19,7 +19,11 @@ use Rattle.jobs.specs.declared.cuts.Cuts.{Cuts}
 use Rattle.jobs.specs.declared.job.Job.{Job}
 use Rattle.jobs.specs.declared.job.Stage.{Stage}
 use Rattle.jobs.specs.declared.job.Stage.the-variants.{Shut, Open}
+use Rattle.jobs.specs.declared.record.Moment.{Moment}
+use Rattle.jobs.specs.declared.record.Record.{Record}
 use Rattle.jobs.specs.declared.refusal.Refusal.{Refusal}
+use Rattle.jobs.specs.Runs.{Recorded, Run, runs, Lived, furthest}
+use Rattle.jobs.specs.Lives.{Life, Law}
 use Rattle.jobs.specs.Calls as calls
 use Rattle.jobs.specs.Calls.{Opened, State, shut, opened, refused, accepted, counted, nothing, shown, does, filled}
 
@@ -48,6 +52,14 @@ answer-of k (Counted reads) = counted reads
 answer-of k Nothing = nothing
 answer-of k (Shown v) = shown (view-of k v)
 
+-- the job right after a call
+abbrev pub moment-of : {V : Type 0} (k : kind.Ghosts V) → Option (Moment V) → State (k .costs)
+moment-of k None = shut
+moment-of k (Some m) = opened (record { end = m .end; cuts = in-use (m .cuts); total = k .means (m .total) })
+
+abbrev pub recorded-of : {V : Type 0} (k : kind.Ghosts V) → Record V → Recorded (k .costs)
+recorded-of k r = record { call = r .call; answer = answer-of k (r .answer); state = moment-of k (r .moment) }
+
 -- what an opening answers
 abbrev pub opening : {V : Type 0} (k : kind.Ghosts V) → Result (Unit {0}) Refusal → calls.Answer (k .costs)
 opening k (Ok _) = accepted
@@ -69,3 +81,11 @@ pub record Did {V S : Type 0} (k : kind.Ghosts V) (m : source.Ghosts S V) (bound
   pub source : after .source ≡ before .source
   pub outcome : record { state = state-of k after; cells = map (k .means) new; answer = answer } ≡ does (k .costs) (meant k m (before .source)) bound (state-of k before) call (map (k .means) old)
   pub kept : drop (filled (state-of k after) answer) new ≡ drop (filled (state-of k after) answer) old
+
+-- The calls ran from the job `before` and the cells `old` to `after` and `new`, as is defined, with these records; the records go on with the life of the job, and the law holds in every life over its source.
+pub record Ran {V S : Type 0} (k : kind.Ghosts V) (m : source.Ghosts S V) (bound : ℕ) (made : List Call) (before after : Job S V) (old new : List V) (records : List (Record V)) : Type 0 where
+  pub source : after .source ≡ before .source
+  pub run : record { records = map (recorded-of k) records; state = state-of k after; cells = map (k .means) new } ≡ runs (k .costs) (meant k m (before .source)) bound (state-of k before) (map (k .means) old) made
+  pub kept : drop (furthest (map (recorded-of k) records)) new ≡ drop (furthest (map (recorded-of k) records)) old
+  pub life : Life (k .costs) (meant k m (before .source)) bound (state-of k before) → Lived (k .costs) (meant k m (before .source)) bound (map (recorded-of k) records)
+  pub law : Law (k .costs) (meant k m (before .source)) bound

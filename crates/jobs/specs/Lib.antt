@@ -2,5 +2,6 @@ pub mod Cuts
 pub mod Refusals
 pub mod Calls
 pub mod Lives
+pub mod Runs
 pub mod Jobs
 pub mod Stepping

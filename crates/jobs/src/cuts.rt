@@ -29,6 +29,13 @@ impl Cuts {
         self.used
     }
 
+    // The cuts, the first one first.
+    pub fn places(&self) -> &[u32]
+        ensures { λ r. ⌜ now r ≡ in-use (now (self .entry)) ⌝ }
+    {
+        &self.row[0..(self.used as usize).min(255)]
+    }
+
     // The `k`-th cut, counted from 1.
     pub fn nth(&self, k: u32) -> Option<u32>
         ensures { λ r. ⌜ r ≡ nth-cut (in-use (now (self .entry))) k ⌝ }

@@ -9,6 +9,7 @@ mod calls;
 mod looking;
 mod opening;
 mod planning;
+mod running;
 
 // The furthest end of a job.
 const LONGEST: u32 = 4096;

@@ -4,12 +4,16 @@ mod call;
 mod cuts;
 mod job;
 mod laws;
+mod record;
 mod refusal;
 mod step;
 
 pub use answer::Answer;
 pub use answer::View;
 pub use call::Call;
+pub use cuts::Cuts;
 pub use job::Job;
 pub use laws::law_of_lives;
+pub use record::Moment;
+pub use record::Record;
 pub use refusal::Refusal;

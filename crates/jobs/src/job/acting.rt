@@ -20,8 +20,8 @@ impl<S: Source> Job<S> {
             (Stage::Shut, _) => Answer::Refused(Refusal::NotOpen),
             (Stage::Open, Call::OpenChecked) => Answer::Refused(Refusal::AlreadyOpen),
             (Stage::Open, Call::OpenVouched) => Answer::Refused(Refusal::AlreadyOpen),
-            (Stage::Open, Call::Add) => counting_answer(self.add_cut(cells)),
-            (Stage::Open, Call::Drop) => counting_answer(self.drop_cut(cells)),
+            (Stage::Open, Call::Add) => counting_answer(self.step_on(cells)),
+            (Stage::Open, Call::Drop) => counting_answer(self.step_down(cells)),
             (Stage::Open, Call::Reach(end)) => counting_answer(self.move_end(end, cells)),
             (Stage::Open, Call::Look(k)) => Answer::Shown(self.view(k)),
         }

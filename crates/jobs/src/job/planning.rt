@@ -24,7 +24,7 @@ const MOST_CUTS: u32 = 255;
 
 impl<S: Source> Job<S> {
     // One cut more.
-    pub(super) fn add_cut(&mut self, cells: &mut [S::Kind]) -> Result<u64, Refusal>
+    pub(super) fn step_on(&mut self, cells: &mut [S::Kind]) -> Result<u64, Refusal>
         requires { ⌜ now self .stage ≡ Open ⌝ }
         ensures { λ r. ⌜ ((bound : ℕ) → Did Kind·Kind S·Source bound Add (now (self .entry)) (now (self .exit)) (now (cells .entry)) (now (cells .exit)) (counting Kind·Kind r)) ⌝ }
     {
@@ -40,7 +40,7 @@ impl<S: Source> Job<S> {
     }
 
     // One cut fewer.
-    pub(super) fn drop_cut(&mut self, cells: &mut [S::Kind]) -> Result<u64, Refusal>
+    pub(super) fn step_down(&mut self, cells: &mut [S::Kind]) -> Result<u64, Refusal>
         requires { ⌜ now self .stage ≡ Open ⌝ }
         ensures { λ r. ⌜ ((bound : ℕ) → Did Kind·Kind S·Source bound Drop (now (self .entry)) (now (self .exit)) (now (cells .entry)) (now (cells .exit)) (counting Kind·Kind r)) ⌝ }
     {

@@ -11,7 +11,7 @@ use Rattle.jobs.specs.Calls.{touched}
 use Rattle.jobs.specs.Jobs.{in-use}
 use Rattle.jobs.proofs.Doing.{does-add, refused-plan, done-plan, done-kept, touched-some, came-rising, came-within}
 use Rattle.jobs.proofs.PlansInUse.{plan-from}
-use Rattle.jobs.proofs.job.Job.add_cut.Needs as need
+use Rattle.jobs.proofs.job.Job.step_on.Needs as need
 
 pub returns-in-Break-check-room : need.returns-in-Break-check-room
 returns-in-Break-check-room g c bound =
