@@ -1,3 +1,4 @@
 pub mod InUse
 pub mod PlansInUse
 pub mod Doing
+pub mod Lives
