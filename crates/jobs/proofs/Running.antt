@@ -50,26 +50,38 @@ module _ {V S : Type 0} (k : kind.Ghosts V) (m : source.Ghosts S V) (bound : ℕ
   abbrev s : Scale (k .costs)
   s = meant k m (before .source)
 
+  -- one call more from a state and cells, where it came to this outcome
+  one-more : (rs : List (Recorded (k .costs))) (call : Call) (answer : Answer (k .costs)) (next : State (k .costs)) (new : List (k .costs .Cost)) (at : State (k .costs)) (cells : List (k .costs .Cost)) (rest : List Call)
+    → record { state = next; cells = new; answer = answer } ≡ does (k .costs) s bound at call cells
+    → after (rs ++ record { call = call; answer = answer; state = next } ∷ []) (runs (k .costs) s bound next new rest) ≡ after rs (runs (k .costs) s bound at cells (call ∷ rest))
+  one-more rs call answer next new at cells rest out =
+      let later = runs (k .costs) s bound next new rest in
+      ap (λ x. record { records = x; state = later .state; cells = later .cells }) (append-assoc rs (record { call = call; answer = answer; state = next } ∷ []) (later .records))
+      ∙ ap (λ o. let t = runs (k .costs) s bound (o .state) (o .cells) rest in after rs (record { records = record { call = call; answer = o .answer; state = o .state } ∷ t .records; state = t .state; cells = t .cells })) out
+
   pub running-first : Running k m bound calls before before old old [] 0
   running-first = record { source = refl; going = refl; kept = refl; life = λ l. (tt, l) }
 
-  module _ {at next : Job S V} {cells new : List V} {records : List (Record V)} {i : ℕ} (call : Call) (rest : List Call) (r : Record V)
-    (run : Running k m bound calls before at old cells records i) (here : drop i calls ≡ call ∷ rest) where
-    abbrev rs : List (Recorded (k .costs))
-    rs = map (recorded-of k) records
-
-    pub running-more : (answer : Answer (k .costs)) → Did k m bound call at next cells new answer → recorded-of k r ≡ record { call = call; answer = answer; state = state-of k next } → drop (i + 1) calls ≡ rest
-      → Running k m bound calls before next old new (records ++ r ∷ []) (i + 1)
-    running-more answer did rec later =
-        let O : Outcome (k .costs) = record { state = state-of k next; cells = map (k .means) new; answer = answer } in
-        let out : O ≡ does (k .costs) s bound (state-of k at) call (map (k .means) cells) = subst (λ x. O ≡ does (k .costs) (meant k m x) bound (state-of k at) call (map (k .means) cells)) (run .source) (did .outcome) in
-        let pushed : map (recorded-of k) (records ++ r ∷ []) ≡ rs ++ record { call = call; answer = answer; state = state-of k next } ∷ [] = map-push (recorded-of k) records r ∙ ap (λ x. rs ++ x ∷ []) rec in
-        record {
-          source = did .source ∙ run .source;
-          going = ?;
-          kept = ?;
-          life = ?;
-        }
+  pub running-more : {at next : Job S V} {cells new : List V} {records : List (Record V)} {i : ℕ} (call : Call) (rest : List Call) (r : Record V) (answer : Answer (k .costs))
+    → Running k m bound calls before at old cells records i → drop i calls ≡ call ∷ rest → drop (i + 1) calls ≡ rest
+    → Did k m bound call at next cells new answer → recorded-of k r ≡ record { call = call; answer = answer; state = state-of k next }
+    → Running k m bound calls before next old new (records ++ r ∷ []) (i + 1)
+  running-more {at} {next} {cells} {new} {records} {i} call rest r answer run here later did is =
+      let rs : List (Recorded (k .costs)) = map (recorded-of k) records in
+      let q : Recorded (k .costs) = record { call = call; answer = answer; state = state-of k next } in
+      let O : Outcome (k .costs) = record { state = state-of k next; cells = map (k .means) new; answer = answer } in
+      let out : O ≡ does (k .costs) s bound (state-of k at) call (map (k .means) cells) = subst (λ x. O ≡ does (k .costs) (meant k m x) bound (state-of k at) call (map (k .means) cells)) (run .source) (did .outcome) in
+      let pushed : map (recorded-of k) (records ++ r ∷ []) ≡ rs ++ q ∷ [] = map-push (recorded-of k) records r ∙ ap (λ x. rs ++ x ∷ []) is in
+      record {
+        source = did .source ∙ run .source;
+        going = rw (pushed, later) (one-more rs call answer (state-of k next) (map (k .means) new) (state-of k at) (map (k .means) cells) rest out ∙ ap (λ cs. after rs (runs (k .costs) s bound (state-of k at) (map (k .means) cells) cs)) (sym here) ∙ run .going);
+        kept = rw (pushed, furthest-push rs q)
+          (agree-on (filled (q .state) answer) (max (furthest rs) (filled (q .state) answer)) new cells (omega arith) (did .kept)
+          ∙ agree-on (furthest rs) (max (furthest rs) (filled (q .state) answer)) cells old (omega arith) (run .kept));
+        life = λ l.
+          let now = subst (Life (k .costs) s bound) (ap (λ o. o .state) (sym out)) (then (run .life l .1) call (map (k .means) cells)) in
+          (rw pushed (lived-push rs q (run .life l .0) now), now);
+      }
 
   pub running-last : {at : Job S V} {cells : List V} {records : List (Record V)} {i : ℕ} → Running k m bound calls before at old cells records i → length calls ≤ i → Law (k .costs) s bound → Ran k m bound calls before at old cells records
   running-last {at} {cells} {records} {i} run h law =
@@ -77,7 +89,7 @@ module _ {V S : Type 0} (k : kind.Ghosts V) (m : source.Ghosts S V) (bound : ℕ
       let end : drop i calls ≡ [] = drop-all i calls h in
       record {
         source = run .source;
-        run = (λ x. record { records = append-nil rs (~ x); state = state-of k at; cells = map (k .means) cells }) ∙ ?;
+        run = ap (λ x. record { records = x; state = state-of k at; cells = map (k .means) cells }) (sym (append-nil rs)) ∙ ap (λ cs. after rs (runs (k .costs) s bound (state-of k at) (map (k .means) cells) cs)) (sym end) ∙ run .going;
         kept = run .kept;
         life = λ l. run .life l .0;
         law = law;
