@@ -1,3 +1,4 @@
 pub mod Layers
 pub mod Quadrangles
 pub mod Firsts
+pub mod Tables
