@@ -20,6 +20,9 @@ pub use squares::first_too_large;
 pub use squares::squares_decide;
 pub use table::Table;
 pub use table::TableFault;
+pub use table::TableFaultDebug;
+pub use table::TableFaultEq;
+pub use table::TableFaultPartialEq;
 pub use table::TableSource;
 pub use turned::Turned;
 pub use turned::TurnedSource;
@@ -28,3 +31,6 @@ pub use vouching::Vouching;
 pub use window::Window;
 pub use window::WindowSource;
 pub use window::WindowVouching;
+
+#[cfg(test)]
+mod tests;

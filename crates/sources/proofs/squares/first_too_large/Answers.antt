@@ -2,9 +2,9 @@ use mathlib.Core.Path.{_≡_, sym, _∙_}
 use Prim.Native.Nat.{_+_}
 use native.Mathlib.Omega.{arith}
 use borrow.Author.Count.{below-more}
-use Rattle.std.specs.declared.option.Option.the-variants.{Some, None}
+use Rattle.std.specs.declared.option.Option.the-variants.{None}
 use Rattle.sources.specs.Meant.{meant}
-use Rattle.sources.specs.Squares.{too-large, first-large}
+use Rattle.sources.specs.Squares.{too-large}
 use Rattle.sources.proofs.Firsts.{in-row, pair, no-pair}
 use Rattle.sources.proofs.Quadrangles.{sized-at-none}
 use Rattle.sources.proofs.squares.first_too_large.Needs as need
