@@ -40,7 +40,7 @@ impl From<AllocError> for TableFault as NoMemory {
     ghost converts = { λ _ f. f ≡ Memory };
 
     fn from(_: AllocError) -> TableFault {
-        TableFault::Memory
+        Self::Memory
     }
 }
 
@@ -105,7 +105,7 @@ pub impl Source for Table as TableSource {
     }
 
     fn cost(&self, x: u32, y: u32) -> Option<i64> {
-        if x <= y && y <= self.last {
+        if x <= y && y <= self.end() {
             Some(i64::from(self.entries[index_of(x, y)]))
         } else {
             None

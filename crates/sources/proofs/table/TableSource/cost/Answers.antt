@@ -14,8 +14,8 @@ use Rattle.sources.proofs.table.TableSource.cost.Needs as need
 pub index-requires : need.index-requires
 index-requires c κs = omega (arith, index-within (c .args .x) (c .args .y) (c .args .self .now .last) (omega arith) (omega arith))
 
-pub returns-then-y-self : need.returns-then-y-self
-returns-then-y-self c =
+pub returns-then-y-end : need.returns-then-y-end
+returns-then-y-end c =
     let table = c .args .self .now in
     let items = vec-items (table .entries) in
     let entry = c .index .result .now in
