@@ -14,34 +14,39 @@ fn filled(heap: Global, last: u32, entries: &[i32]) -> Result<Table, Fail> {
     Ok(t)
 }
 
+// The source ends at `end`, and these are its costs from 0 to 0, from 0 to 1 and from 1 to 1.
+fn answers<S: Source<Kind = i64>>(
+    source: &S,
+    end: u32,
+    costs: [Option<i64>; 3],
+) -> Result<(), Fail> {
+    check_eq(source.end(), end)?;
+    check_eq(
+        [source.cost(0, 0), source.cost(0, 1), source.cost(1, 1)],
+        costs,
+    )
+}
+
 #[test]
 fn tables(rt: LibcRuntime) -> Result<(), Fail> {
     let heap = rt.alloc();
     let mut t = Table::new(heap)?;
-    check_eq((t.end(), t.cost(0, 0), t.cost(0, 1)), (0, Some(0), None))?;
+    answers(&t, 0, [Some(0), None, None])?;
     t.load(heap, 1, &[i32::MIN, i32::MAX, -1])?;
-    check_eq(
-        (t.cost(0, 0), t.cost(0, 1), t.cost(1, 1)),
-        (Some(-2_147_483_648), Some(2_147_483_647), Some(-1)),
-    )?;
     check_eq(t.load(heap, 1, &[0, 0]), Err(TableFault::Length))?;
     check_eq(t.load(heap, 65_536, &[]), Err(TableFault::Length))?;
-    check_eq(TableFault::Length.number(), 11)?;
-    check_eq((t.end(), t.cost(1, 1), t.cost(1, 0)), (1, Some(-1), None))
+    answers(&t, 1, [Some(-2_147_483_648), Some(2_147_483_647), Some(-1)])
 }
 
 #[test]
 fn windows(rt: LibcRuntime) -> Result<(), Fail> {
-    let heap = rt.alloc();
-    let inner = Window::new(filled(heap, 2, &[10, 11, 12, 13, 14, 15])?, 1, 2);
-    check_eq(
-        (inner.end(), inner.cost(0, 1), inner.cost(0, 2)),
-        (1, Some(14), None),
-    )?;
-    let empty = Window::new(filled(heap, 2, &[10, 11, 12, 13, 14, 15])?, 1, 0);
-    check_eq((empty.end(), empty.cost(0, 0)), (0, Some(12)))?;
-    let beyond = Window::new(filled(heap, 2, &[10, 11, 12, 13, 14, 15])?, 7, 9);
-    check_eq((beyond.end(), beyond.cost(0, 0)), (0, Some(15)))
+    let t = filled(rt.alloc(), 2, &[10, 11, 12, 13, 14, 15])?;
+    let inner = Window::new(t, 1, 2);
+    answers(&inner, 1, [Some(12), Some(14), Some(15)])?;
+    let beyond = Window::new(inner, 7, 9);
+    answers(&beyond, 0, [Some(15), None, None])?;
+    let t = filled(rt.alloc(), 1, &[10, 11, 12])?;
+    answers(&Window::new(t, 1, 0), 0, [Some(12), None, None])
 }
 
 #[test]
@@ -51,15 +56,8 @@ fn two_sources(rt: LibcRuntime) -> Result<(), Fail> {
         filled(heap, 2, &[1, 2, 3, 4, 5, 6])?,
         filled(heap, 1, &[10, 20, 30])?,
     );
-    check_eq(
-        (sums.end(), sums.cost(0, 1), sums.cost(0, 2)),
-        (1, Some(22), None),
-    )?;
-    let pairs = Paired::new(
-        filled(heap, 1, &[1, 2, 2])?,
-        filled(heap, 2, &[9, 8, 7, 6, 5, 4])?,
-    );
-    check_eq((pairs.end(), pairs.cost(0, 2)), (1, None))?;
+    answers(&sums, 1, [Some(11), Some(22), Some(33)])?;
+    let pairs = Paired::new(filled(heap, 1, &[1, 2, 2])?, filled(heap, 1, &[9, 8, 7])?);
     let high = pairs.cost(0, 1).ok_or("no class")?;
     let low = pairs.cost(1, 1).ok_or("no class")?;
     check_eq(
@@ -74,17 +72,9 @@ fn two_sources(rt: LibcRuntime) -> Result<(), Fail> {
 
 #[test]
 fn turned_twice(rt: LibcRuntime) -> Result<(), Fail> {
-    let heap = rt.alloc();
-    let once = Turned::new(filled(heap, 1, &[1, 2, 3])?);
-    check_eq(
-        (once.cost(0, 0), once.cost(0, 1), once.cost(1, 1)),
-        (Some(3), Some(2), Some(1)),
-    )?;
-    let twice = Turned::new(once);
-    check_eq(
-        (twice.cost(0, 0), twice.cost(0, 1), twice.cost(1, 1)),
-        (Some(1), Some(2), Some(3)),
-    )
+    let once = Turned::new(filled(rt.alloc(), 1, &[1, 2, 3])?);
+    answers(&once, 1, [Some(3), Some(2), Some(1)])?;
+    answers(&Turned::new(once), 1, [Some(1), Some(2), Some(3)])
 }
 
 #[test]
