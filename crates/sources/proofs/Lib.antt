@@ -3,3 +3,4 @@ pub mod HouseLaws
 pub mod Layers
 pub mod Quadrangles
 pub mod Firsts
+pub mod Tables

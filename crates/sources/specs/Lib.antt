@@ -5,3 +5,4 @@ pub mod Meant
 pub mod Layers
 pub mod Replies
 pub mod Squares
+pub mod Tables

@@ -6,6 +6,7 @@ mod paired;
 mod prices;
 mod source;
 mod squares;
+mod table;
 mod turned;
 mod vouching;
 mod window;
@@ -26,6 +27,12 @@ pub use source::Source;
 pub use squares::first_broken_square;
 pub use squares::first_too_large;
 pub use squares::squares_decide;
+pub use table::Table;
+pub use table::TableFault;
+pub use table::TableFaultDebug;
+pub use table::TableFaultEq;
+pub use table::TableFaultPartialEq;
+pub use table::TableSource;
 pub use turned::Turned;
 pub use turned::TurnedSource;
 pub use turned::TurnedVouching;
@@ -33,3 +40,6 @@ pub use vouching::Vouching;
 pub use window::Window;
 pub use window::WindowSource;
 pub use window::WindowVouching;
+
+#[cfg(test)]
+mod tests;

@@ -8,7 +8,6 @@ ghost use Rattle.sources.specs.Meant.{meant};
 ghost use Rattle.sources.specs.Replies.{paired-replies};
 use crate::source::Source;
 use crate::vouching::Vouching;
-use costs::NumberKind;
 use costs::Ranked;
 use costs::RankedKind;
 

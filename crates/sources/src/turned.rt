@@ -32,7 +32,7 @@ pub impl<S: Source> Source for Turned<S> as TurnedSource {
     }
 
     fn cost(&self, x: u32, y: u32) -> Option<S::Kind> {
-        let last = self.below.end();
+        let last = self.end();
         if x <= y && y <= last {
             self.below.cost(last - y, last - x)
         } else {

@@ -44,9 +44,9 @@ pub impl<S: Source> Source for Window<S> as WindowSource {
     }
 
     fn cost(&self, x: u32, y: u32) -> Option<S::Kind> {
-        let (first, last) = self.span();
-        if x <= y && y <= last - first {
-            self.below.cost(first + x, first + y)
+        let (from, to) = self.span();
+        if x <= y && y <= to - from {
+            self.below.cost(from + x, from + y)
         } else {
             None
         }
