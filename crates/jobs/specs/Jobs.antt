@@ -70,6 +70,21 @@ abbrev pub counting : {V : Type 0} (k : kind.Ghosts V) → Result ℕ Refusal �
 counting k (Ok reads) = counted reads
 counting k (Err why) = refused why
 
+-- which answers openings give, and which the calls that plan
+abbrev pub Is-opening : {K : Costs} → calls.Answer K → Type 0
+Is-opening accepted = Unit {0}
+Is-opening (refused why) = Unit {0}
+Is-opening (counted reads) = ⊥
+Is-opening nothing = ⊥
+Is-opening (shown v) = ⊥
+
+abbrev pub Is-count : {K : Costs} → calls.Answer K → Type 0
+Is-count (counted reads) = Unit {0}
+Is-count (refused why) = Unit {0}
+Is-count accepted = ⊥
+Is-count nothing = ⊥
+Is-count (shown v) = ⊥
+
 -- what a look answers
 abbrev pub looking : {V : Type 0} (k : kind.Ghosts V) → Option (View V) → calls.Answer (k .costs)
 looking k None = nothing
