@@ -52,8 +52,8 @@ module _ {V S : Type 0} (k : kind.Ghosts V) (m : source.Ghosts S V) (bound : ℕ
 
   -- one call more from a state and cells, where it came to this outcome
   one-more : (rs : List (Recorded (k .costs))) (call : Call) (answer : Answer (k .costs)) (next : State (k .costs)) (new : List (k .costs .Cost)) (at : State (k .costs)) (cells : List (k .costs .Cost)) (rest : List Call)
-    → record { state = next; cells = new; answer = answer } ≡ does (k .costs) s bound at call cells
-    → after (rs ++ record { call = call; answer = answer; state = next } ∷ []) (runs (k .costs) s bound next new rest) ≡ after rs (runs (k .costs) s bound at cells (call ∷ rest))
+      → record { state = next; cells = new; answer = answer } ≡ does (k .costs) s bound at call cells
+      → after (rs ++ record { call = call; answer = answer; state = next } ∷ []) (runs (k .costs) s bound next new rest) ≡ after rs (runs (k .costs) s bound at cells (call ∷ rest))
   one-more rs call answer next new at cells rest out =
       let later = runs (k .costs) s bound next new rest in
       ap (λ x. record { records = x; state = later .state; cells = later .cells }) (append-assoc rs (record { call = call; answer = answer; state = next } ∷ []) (later .records))
@@ -63,9 +63,9 @@ module _ {V S : Type 0} (k : kind.Ghosts V) (m : source.Ghosts S V) (bound : ℕ
   running-first = record { source = refl; going = refl; kept = refl; life = λ l. (tt, l) }
 
   pub running-more : {at next : Job S V} {cells new : List V} {records : List (Record V)} {i : ℕ} (call : Call) (rest : List Call) (r : Record V) (answer : Answer (k .costs))
-    → Running k m bound calls before at old cells records i → drop i calls ≡ call ∷ rest → drop (i + 1) calls ≡ rest
-    → Did k m bound call at next cells new answer → recorded-of k r ≡ record { call = call; answer = answer; state = state-of k next }
-    → Running k m bound calls before next old new (records ++ r ∷ []) (i + 1)
+      → Running k m bound calls before at old cells records i → drop i calls ≡ call ∷ rest → drop (i + 1) calls ≡ rest
+      → Did k m bound call at next cells new answer → recorded-of k r ≡ record { call = call; answer = answer; state = state-of k next }
+      → Running k m bound calls before next old new (records ++ r ∷ []) (i + 1)
   running-more {at} {next} {cells} {new} {records} {i} call rest r answer run here later did is =
       let rs : List (Recorded (k .costs)) = map (recorded-of k) records in
       let q : Recorded (k .costs) = record { call = call; answer = answer; state = state-of k next } in
@@ -76,11 +76,11 @@ module _ {V S : Type 0} (k : kind.Ghosts V) (m : source.Ghosts S V) (bound : ℕ
         source = did .source ∙ run .source;
         going = rw (pushed, later) (one-more rs call answer (state-of k next) (map (k .means) new) (state-of k at) (map (k .means) cells) rest out ∙ ap (λ cs. after rs (runs (k .costs) s bound (state-of k at) (map (k .means) cells) cs)) (sym here) ∙ run .going);
         kept = rw (pushed, furthest-push rs q)
-          (agree-on (filled (q .state) answer) (max (furthest rs) (filled (q .state) answer)) new cells (omega arith) (did .kept)
-          ∙ agree-on (furthest rs) (max (furthest rs) (filled (q .state) answer)) cells old (omega arith) (run .kept));
+            (agree-on (filled (q .state) answer) (max (furthest rs) (filled (q .state) answer)) new cells (omega arith) (did .kept)
+            ∙ agree-on (furthest rs) (max (furthest rs) (filled (q .state) answer)) cells old (omega arith) (run .kept));
         life = λ l.
-          let now = subst (Life (k .costs) s bound) (ap (λ o. o .state) (sym out)) (then (run .life l .1) call (map (k .means) cells)) in
-          (rw pushed (lived-push rs q (run .life l .0) now), now);
+            let now = subst (Life (k .costs) s bound) (ap (λ o. o .state) (sym out)) (then (run .life l .1) call (map (k .means) cells)) in
+            (rw pushed (lived-push rs q (run .life l .0) now), now);
       }
 
   pub running-last : {at : Job S V} {cells : List V} {records : List (Record V)} {i : ℕ} → Running k m bound calls before at old cells records i → length calls ≤ i → Law (k .costs) s bound → Ran k m bound calls before at old cells records

@@ -101,3 +101,48 @@ fn squares(rt: LibcRuntime) -> Result<(), Fail> {
         Some((1, 1)),
     )
 }
+
+#[test]
+fn house_lengths(rt: LibcRuntime) -> Result<(), Fail> {
+    let heap = rt.alloc();
+    let mut house = HouseCounts::new(heap)?;
+    check_eq(
+        (house.end(), house.cost(0, 0), house.cost(0, 1)),
+        (0, Some(0), None),
+    )?;
+    check_eq(house.load(heap, &[]), Err(HouseFault::Length))?;
+    check_eq(house.load(heap, &[7]), Ok(()))?;
+    let long = vec![in heap; 7; 4098]?;
+    check(long.len() == 4098)?;
+    check_eq(house.load(heap, &long), Err(HouseFault::Length))?;
+    check_eq(house.end(), 0)?;
+    check_eq(house.load(heap, &long[0..4097]), Ok(()))?;
+    check_eq(
+        (house.end(), house.cost(0, 4096), house.bound()),
+        (4096, Some(0), 0),
+    )
+}
+
+#[test]
+fn house_counts(rt: LibcRuntime) -> Result<(), Fail> {
+    let heap = rt.alloc();
+    let mut house = HouseCounts::new(heap)?;
+    check_eq(house.load(heap, &[0, 200_000]), Ok(()))?;
+    check_eq(
+        house.load(heap, &[0, 200_001]),
+        Err(HouseFault::BadCount(1)),
+    )?;
+    check_eq(
+        house.load(heap, &[4, 5, 4, 200_001]),
+        Err(HouseFault::BadCount(2)),
+    )?;
+    check_eq((house.end(), house.cost(0, 1)), (1, Some(400_000)))?;
+    check_eq(house.load(heap, &[2, 3, 4, 4, 6]), Ok(()))?;
+    check_eq(
+        (house.cost(0, 4), house.cost(1, 3), house.cost(3, 1)),
+        (Some(20), Some(4), None),
+    )?;
+    check_eq(house.bound(), 20)?;
+    check_eq((price(0), price(8), price(9)), (Some(0), Some(9), Some(11)))?;
+    check_eq((price(4096), price(4097)), (Some(4608), None))
+}

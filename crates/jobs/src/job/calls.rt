@@ -23,7 +23,13 @@ impl<S: Source> Job<S> {
         ensures blank { λ r. ⌜ (r .end ≡ 0) × (in-use (r .cuts) ≡ []) × (Kind·Kind .means (r .total) ≡ Kind·Kind .costs .nil) ⌝ }
         ensures source { λ r. ⌜ r .source ≡ source ⌝ }
     {
-        Job { source, stage: Stage::Shut, end: 0, cuts: Cuts::none(), total: S::Kind::zero() }
+        Job {
+            source,
+            stage: Stage::Shut,
+            end: 0,
+            cuts: Cuts::none(),
+            total: S::Kind::zero(),
+        }
     }
 
     // Opens the job after a look at every cost and every square.

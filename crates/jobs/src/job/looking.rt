@@ -27,7 +27,11 @@ impl<S: Source> Job<S> {
     {
         match self.stage {
             Stage::Shut => None,
-            Stage::Open => Some(Moment { end: self.end, cuts: self.cuts, total: self.total }),
+            Stage::Open => Some(Moment {
+                end: self.end,
+                cuts: self.cuts,
+                total: self.total,
+            }),
         }
     }
 }

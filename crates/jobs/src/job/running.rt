@@ -18,20 +18,35 @@ use std::alloc::Global;
 
 impl<S: Source> Job<S> {
     // Makes the calls in turn. Memory for the records is got before the first call, so that want of it changes nothing.
-    fn run_under(&mut self, heap: Global, bound: u64, calls: &[Call], cells: &mut [S::Kind]) -> Result<Vec<Record<S::Kind>>, AllocError>
+    fn run_under(
+        &mut self,
+        heap: Global,
+        bound: u64,
+        calls: &[Call],
+        cells: &mut [S::Kind],
+    ) -> Result<Vec<Record<S::Kind>>, AllocError>
         requires { ⌜ (bound ≤ largest → Sound (Kind·Kind .costs) (meant Kind·Kind S·Source (now self .source)) bound) ⌝ }
         ensures { λ r. ⌜ Cases r (λ v. Ran Kind·Kind S·Source bound (now (calls .entry)) (now (self .entry)) (now (self .exit)) (now (cells .entry)) (now (cells .exit)) (vec-items v)) (λ _. (now (self .exit) ≡ now (self .entry)) × (now (cells .exit) ≡ now (cells .entry))) ⌝ }
     {
         let mut records = Vec::with_capacity(heap, calls.len())?;
         for call in calls {
             let answer = self.act(*call, bound, cells);
-            records.push_reserved(Record { call: *call, answer, moment: self.moment() });
+            records.push_reserved(Record {
+                call: *call,
+                answer,
+                moment: self.moment(),
+            });
         }
         Ok(records)
     }
 
     // Runs a job over a source that does not vouch: its vouched openings are refused.
-    pub fn run_checked(&mut self, heap: Global, calls: &[Call], cells: &mut [S::Kind]) -> Result<Vec<Record<S::Kind>>, AllocError>
+    pub fn run_checked(
+        &mut self,
+        heap: Global,
+        calls: &[Call],
+        cells: &mut [S::Kind],
+    ) -> Result<Vec<Record<S::Kind>>, AllocError>
         ensures { λ r. ⌜ Cases r (λ v. Ran Kind·Kind S·Source 18446744073709551615 (now (calls .entry)) (now (self .entry)) (now (self .exit)) (now (cells .entry)) (now (cells .exit)) (vec-items v)) (λ _. (now (self .exit) ≡ now (self .entry)) × (now (cells .exit) ≡ now (cells .entry))) ⌝ }
     {
         self.run_under(heap, u64::MAX, calls, cells)
@@ -40,7 +55,12 @@ impl<S: Source> Job<S> {
 
 impl<S: Vouching> Job<S> {
     // Makes the calls in turn, and returns a record of each.
-    pub fn run(&mut self, heap: Global, calls: &[Call], cells: &mut [S::Kind]) -> Result<Vec<Record<S::Kind>>, AllocError>
+    pub fn run(
+        &mut self,
+        heap: Global,
+        calls: &[Call],
+        cells: &mut [S::Kind],
+    ) -> Result<Vec<Record<S::Kind>>, AllocError>
         ensures { λ r. ⌜ Cases r (λ v. Ran Kind·Kind S·Source (S·Vouching .vouched (now (self .entry) .source)) (now (calls .entry)) (now (self .entry)) (now (self .exit)) (now (cells .entry)) (now (cells .exit)) (vec-items v)) (λ _. (now (self .exit) ≡ now (self .entry)) × (now (cells .exit) ≡ now (cells .entry))) ⌝ }
     {
         let bound = self.source.bound();

@@ -24,9 +24,9 @@ loop-call-again g c =
     let answer = answer-of k (c .act-answer .result) in
     let pushed = c .push-reserved .ensures in
     let more = running-more k (g .S·Source) (c .args .bound) calls (c .args .self .now) (c .args .cells .now) call (drop (i + 1) calls)
-          (record { call = call; answer = c .act-answer .result; moment = c .moment .result }) answer
-          (c .loop-call .inv .2) (drop-more calls i OpenChecked (c .loop-call-test .taken)) refl (c .act-answer .ensures)
-          (ap (λ st. record { call = call; answer = answer; state = st }) (c .moment .ensures)) in
+    (record { call = call; answer = c .act-answer .result; moment = c .moment .result }) answer
+    (c .loop-call .inv .2) (drop-more calls i OpenChecked (c .loop-call-test .taken)) refl (c .act-answer .ensures)
+    (ap (λ st. record { call = call; answer = answer; state = st }) (c .moment .ensures)) in
     (omega (arith, pushed .len, c .loop-call .inv .0), omega (arith, pushed .capacity, c .loop-call .inv .1), rw (pushed .items) more)
 
 pub returns : need.returns
@@ -34,4 +34,4 @@ returns g c =
     let k = g .Kind·Kind in
     let job = c .args .self .now in
     running-last k (g .S·Source) (c .args .bound) (c .args .calls .now) job (c .args .cells .now) (c .loop-call .inv .2) (c .loop-call-test .left)
-      (law-of-lives (k .costs) (g .Kind·Kind·met .laws) (meant k (g .S·Source) (job .source)) (c .args .bound) (c .pre))
+    (law-of-lives (k .costs) (g .Kind·Kind·met .laws) (meant k (g .S·Source) (job .source)) (c .args .bound) (c .pre))
