@@ -1,1 +1,9 @@
 pub mod InUse
+pub mod Searches
+pub mod Places
+pub mod Levels
+pub mod FilledRows
+pub mod Tails
+pub mod Fences
+pub mod Laid
+pub mod Traces

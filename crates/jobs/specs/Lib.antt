@@ -3,3 +3,5 @@ pub mod Refusals
 pub mod Calls
 pub mod Lives
 pub mod Jobs
+pub mod Filled
+pub mod Left

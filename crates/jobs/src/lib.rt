@@ -5,6 +5,7 @@ mod cuts;
 mod job;
 mod laws;
 mod refusal;
+mod step;
 
 pub use answer::Answer;
 pub use answer::View;
