@@ -3,10 +3,11 @@ use mathlib.Core.Path.{_≡_, sym, _∙_, ap}
 use mathlib.Core.List.{List, [], _∷_, _++_}
 use Prim.Native.Nat.{ℕ, zero, suc, _+_, _-_, _≤_, _<_}
 use native.Mathlib.Omega.{arith}
-use lib.ListN.{length, getD, take, drop}
-use Rattle.std.proofs.shelf.Lists.{length-take-le, getD-append-left, getD-take, getD-push, length-push}
+use lib.ListN.{length, getD, take}
+use Rattle.std.proofs.shelf.Lists.{length-take-le, getD-append-left, getD-take, getD-push}
 use Rattle.plans.specs.Plans.{Plan}
 use Rattle.plans.specs.Theorems.{fenced}
+use Rattle.plans.proofs.Plans.{plan-under}
 
 -- the cuts in use of a row
 module _ (row : List ℕ) (used end : ℕ) where
@@ -30,3 +31,10 @@ fences-rise x (m ∷ xs) e (suc k) p h = fences-rise m xs e k (p .1) (omega arit
 -- the next place of a fenced plan
 pub fence-next : (xs : List ℕ) (e i : ℕ) → getD (fenced xs e) (i + 1) 0 ≡ getD (xs ++ e ∷ []) i 0
 fence-next xs e i = let s : i + 1 ≡ suc i = omega arith in ap (λ z. getD (fenced xs e) z 0) s
+
+pub fence-two : (xs : List ℕ) (e i : ℕ) → getD (fenced xs e) (i + 2) 0 ≡ getD (xs ++ e ∷ []) (i + 1) 0
+fence-two xs e i = let s : i + 2 ≡ suc (i + 1) = omega arith in ap (λ z. getD (fenced xs e) z 0) s
+
+-- each is no later than the next, and none passes the end
+pub fence-order : (held : List ℕ) (end : ℕ) → Plan 0 held end → (i : ℕ) → i ≤ length held → (getD (fenced held end) i 0 ≤ getD (fenced held end) (i + 1) 0) × (getD (fenced held end) (i + 1) 0 ≤ end)
+fence-order held end plan i h = (omega (arith, fences-rise 0 held end i plan h, fence-next held end i), omega (arith, plan-under 0 end held i plan h, fence-next held end i))

@@ -7,3 +7,5 @@ pub mod Tails
 pub mod Fences
 pub mod Laid
 pub mod Traces
+pub mod PowerTable
+pub mod Stepping
