@@ -49,35 +49,35 @@ module _ {V : Type 0} (k : kind.Ghosts V) (s : Scale (k .costs)) (end : ℕ) (ol
     few = omega arith;
   }
 
-  module _ {n : ℕ} {vs : List V} {r : Stepped V} (before : Climbed n vs r) where
-    pub climbed-plan : Plan 0 (in-use (r .cuts)) end
-    climbed-plan = subst (λ xs. Plan 0 xs end) (sym (before .left .cuts)) (climb-plan (k .costs) s end (map (k .means) old) n)
+module _ {V : Type 0} {k : kind.Ghosts V} {s : Scale (k .costs)} {end : ℕ} {old : List V} {n : ℕ} {vs : List V} {r : Stepped V} (before : Climbed k s end old n vs r) where
+  pub climbed-plan : Plan 0 (in-use (r .cuts)) end
+  climbed-plan = subst (λ xs. Plan 0 xs end) (sym (before .left .cuts)) (climb-plan (k .costs) s end (map (k .means) old) n)
 
-    more : {vs′ : List V} {t : Stepped V} → StepLeft k s (r .cuts) end vs vs′ t → ClimbLeft k s end (suc n) old vs′ (record { cuts = t .cuts; total = t .total; reads = r .reads + t .reads })
-    more {vs′} {t} did =
-        let K = k .costs in
-        let was = climb K s end n (map (k .means) old) in
-        let cuts = before .left .cuts in
-        let used = before .left .used in
-        let N = end + r .cuts .used + 1 in
-        let filled : cond (eqb n 0) 0 (end + n) ≤ N = cond-both (eqb n 0) 0 (end + n) (λ z. z ≤ N) (λ _. omega arith) (λ _. omega arith) in
-        let N-is : N ≡ cond (eqb (suc n) 0) 0 (end + suc n) = (let e : N ≡ end + suc n = omega arith in e) ∙ sym (cond-false (eqb (suc n) 0) 0 (end + suc n) (ne-eqb (suc n) 0 (omega arith))) in
-        record {
-          cuts = did .cuts ∙ ap (λ xs. step K s xs end .cuts) cuts;
-          used = omega (arith, did .used);
-          total = did .total ∙ ap (λ xs. step K s xs end .total) cuts;
-          reads = omega (arith, did .reads, before .left .reads, ap (λ xs. step K s xs end .reads) cuts);
-          cells = did .cells ∙ ap (λ xs. over (step K s xs end .cells) (map (k .means) vs)) cuts ∙ ap (over (step K s (was .cuts) end .cells)) (before .left .cells);
-          kept = subst (λ z. drop z vs′ ≡ drop z old) N-is (did .kept ∙ agree-behind (cond (eqb n 0) 0 (end + n)) N vs old filled (before .left .kept));
-        }
+  left-more : {vs′ : List V} {t : Stepped V} → StepLeft k s (r .cuts) end vs vs′ t → ClimbLeft k s end (suc n) old vs′ (record { cuts = t .cuts; total = t .total; reads = r .reads + t .reads })
+  left-more {vs′} {t} did =
+      let K = k .costs in
+      let was = climb K s end n (map (k .means) old) in
+      let cuts = before .left .cuts in
+      let used = before .left .used in
+      let N = end + r .cuts .used + 1 in
+      let filled : cond (eqb n 0) 0 (end + n) ≤ N = cond-both (eqb n 0) 0 (end + n) (λ z. z ≤ N) (λ _. omega arith) (λ _. omega arith) in
+      let N-is : N ≡ cond (eqb (suc n) 0) 0 (end + suc n) = (let e : N ≡ end + suc n = omega arith in e) ∙ sym (cond-false (eqb (suc n) 0) 0 (end + suc n) (ne-eqb (suc n) 0 (omega arith))) in
+      record {
+        cuts = did .cuts ∙ ap (λ xs. step K s xs end .cuts) cuts;
+        used = omega (arith, did .used);
+        total = did .total ∙ ap (λ xs. step K s xs end .total) cuts;
+        reads = omega (arith, did .reads, before .left .reads, ap (λ xs. step K s xs end .reads) cuts);
+        cells = did .cells ∙ ap (λ xs. over (step K s xs end .cells) (map (k .means) vs)) cuts ∙ ap (over (step K s (was .cuts) end .cells)) (before .left .cells);
+        kept = subst (λ z. drop z vs′ ≡ drop z old) N-is (did .kept ∙ agree-behind (cond (eqb n 0) 0 (end + n)) N vs old filled (before .left .kept));
+      }
 
-    pub climbed-reads : {vs′ : List V} {t : Stepped V} → end ≤ longest → n < most-cuts → StepLeft k s (r .cuts) end vs vs′ t → r .reads + t .reads ≤ 1 + suc n * 62000
-    climbed-reads short less did =
-        let held : length (in-use (r .cuts)) ≡ n = ap length (before .left .cuts) ∙ climb-length (k .costs) s end (map (k .means) old) n in
-        omega (arith, did .reads, before .few, step-few (k .costs) s (in-use (r .cuts)) end climbed-plan short (omega arith))
+  pub climbed-reads : {vs′ : List V} {t : Stepped V} → end ≤ longest → n < most-cuts → StepLeft k s (r .cuts) end vs vs′ t → r .reads + t .reads ≤ 1 + suc n * 62000
+  climbed-reads short less did =
+      let held : length (in-use (r .cuts)) ≡ n = ap length (before .left .cuts) ∙ climb-length (k .costs) s end (map (k .means) old) n in
+      omega (arith, did .reads, before .few, step-few (k .costs) s (in-use (r .cuts)) end climbed-plan short (omega arith))
 
-    pub climbed-more : {vs′ : List V} {t : Stepped V} → end ≤ longest → n < most-cuts → StepLeft k s (r .cuts) end vs vs′ t → Climbed (n + 1) vs′ (record { cuts = t .cuts; total = t .total; reads = r .reads + t .reads })
-    climbed-more {vs′} {t} short less did =
-        let one : suc n ≡ n + 1 = omega arith in
-        subst (λ z. Climbed z vs′ (record { cuts = t .cuts; total = t .total; reads = r .reads + t .reads })) one
-        (record { left = more did; few = climbed-reads short less did })
+  pub climbed-more : {vs′ : List V} {t : Stepped V} → end ≤ longest → n < most-cuts → StepLeft k s (r .cuts) end vs vs′ t → Climbed k s end old (n + 1) vs′ (record { cuts = t .cuts; total = t .total; reads = r .reads + t .reads })
+  climbed-more {vs′} {t} short less did =
+      let one : suc n ≡ n + 1 = omega arith in
+      subst (λ z. Climbed k s end old z vs′ (record { cuts = t .cuts; total = t .total; reads = r .reads + t .reads })) one
+      (record { left = left-more did; few = climbed-reads short less did })

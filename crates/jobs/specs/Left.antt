@@ -4,7 +4,7 @@ use mathlib.Core.Bool.{cond}
 use mathlib.Core.List.{List, map}
 use Prim.Native.Nat.{ℕ, _+_, _≤_, _<_}
 use lib.Dec.{eqb}
-use lib.ListN.{getD, take, drop}
+use lib.ListN.{length, getD, take, drop}
 use Rattle.costs.specs.declared.kind.Kind as kind
 use Rattle.costs.specs.Costs.{Costs}
 use Rattle.sources.specs.Scales.{Scale}
@@ -42,14 +42,15 @@ pub record FirstRow {V : Type 0} (k : kind.Ghosts V) (s : Scale (k .costs)) (x :
 
 -- the values that begin with the rows of a step from the held cuts, and keep what was behind them
 pub record Rows {V : Type 0} (k : kind.Ghosts V) (s : Scale (k .costs)) (held : Cuts) (end : ℕ) (old new : List V) (count : ℕ) : Type 0 where
-  pub cells : map (k .means) (take (end + held .used + 1) new) ≡ joined-cells (rows (k .costs) s (in-use held) end)
+  pub cells : map (k .means) (take (end + length (in-use held) + 1) new) ≡ joined-cells (rows (k .costs) s (in-use held) end)
   pub reads : count ≡ rows-reads (k .costs) s (in-use held) end
-  pub behind : drop (end + held .used + 1) new ≡ drop (end + held .used + 1) old
+  pub behind : drop (end + length (in-use held) + 1) new ≡ drop (end + length (in-use held) + 1) old
 
 -- the new cuts of a step from the held ones, with their total
 pub record Trace (K : Costs) (s : Scale K) (held new : Cuts) (end : ℕ) (total : K .Cost) (count : ℕ) : Type 0 where
   pub cuts : in-use new ≡ traced K s (rows K s (in-use held) end) end
   pub used : new .used ≡ held .used + 1
+  pub number : length (in-use new) ≡ new .used
   pub cost : total ≡ reached K s (rows K s (in-use held) end) end
   pub reads : count ≡ traced-reads (rows K s (in-use held) end)
 

@@ -52,7 +52,7 @@ impl Cuts {
     // Puts the new cuts, found from the last row of the cells to the first, in the place of those held.
     pub fn trace<S: Source>(&mut self, source: &S, end: u32, cells: &[S::Kind]) -> Option<Traced<S::Kind>>
         requires ready { ⌜ Ready (now self) end (S·Source .last (now source)) (length (now cells)) ⌝ }
-        requires filled { ⌜ map (Kind·Kind .means) (take (end + now self .used + 1) (now cells)) ≡ joined-cells (rows (Kind·Kind .costs) (meant Kind·Kind S·Source (now source)) (in-use (now self)) end) ⌝ }
+        requires filled { ⌜ map (Kind·Kind .means) (take (end + length (in-use (now self)) + 1) (now cells)) ≡ joined-cells (rows (Kind·Kind .costs) (meant Kind·Kind S·Source (now source)) (in-use (now self)) end) ⌝ }
         ensures { λ r. ⌜ Cases r ⊥ (λ t. Trace (Kind·Kind .costs) (meant Kind·Kind S·Source (now (source .entry))) (now (self .entry)) (now (self .exit)) end (Kind·Kind .means (t .total)) (t .reads)) ⌝ }
     {
         let last = self.least_of_row(source, self.used, end, end, cells)?;

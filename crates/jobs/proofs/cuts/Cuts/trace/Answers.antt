@@ -89,7 +89,7 @@ returns g c =
     let self = c .args .self .now in
     let end = c .args .end in
     let cs = map (k .means) (c .args .cells .now) in
-    let N = end + self .used + 1 in
+    let N = end + length (in-use self) + 1 in
     let len : length (self .row) ≡ 255 = search needs in
     let n : length (in-use self) ≡ self .used = length-take-le (self .used) (self .row) (omega arith) in
     let rows-are = rows-cut K s (in-use self) end N cs (take-map (k .means) N (c .args .cells .now) ∙ c .pre .filled) in
@@ -99,6 +99,7 @@ returns g c =
     record {
       cuts = ap (λ m. take m (c .loop-i .row)) all ∙ t .found ∙ ap (λ rs. traced K s rs end) (sym rows-are);
       used = refl;
+      number = length-take-le (self .used + 1) (c .loop-i .row) (omega arith);
       cost = t .cost ∙ ap (λ rs. reached K s rs end) (sym rows-are);
       reads = t .read ∙ ap traced-reads (sym rows-are);
     }

@@ -1,10 +1,9 @@
 use mathlib.Core.Path.{_≡_, refl, sym, _∙_, subst}
 use mathlib.Core.List.{map}
-use Prim.Native.Nat.{_+_, _-_}
+use Prim.Native.Nat.{_+_, _-_, _≤_}
 use native.Mathlib.Omega.{arith}
-use borrow.Author.Needs.{needs}
 use lib.ListN.{length, take}
-use Rattle.std.proofs.shelf.Lists.{length-take-le, drop-drop}
+use Rattle.std.proofs.shelf.Lists.{length-take, drop-drop}
 use Rattle.sources.specs.Meant.{meant}
 use Rattle.plans.specs.Steps.{rows, joined-cells}
 use Rattle.plans.proofs.Plans.{plan-in, plan-under}
@@ -28,38 +27,33 @@ loop-i-holds g c =
 pub add-i : need.add-i
 add-i g c =
     let held = c .args .held .now in
-    let len : length (held .row) ≡ 255 = search needs in
-    let n : length (in-use held) ≡ held .used = length-take-le (held .used) (held .row) (omega arith) in
+    let n : length (in-use held) ≤ held .used = simp length-take (omega arith) in
     record { fits = omega (arith, c .count-i-end .ensures (omega arith)) }
 
 pub row-start-c-requires : need.row-start-c-requires
 row-start-c-requires g c κs =
     let held = c .args .held .now in
-    let len : length (held .row) ≡ 255 = search needs in
-    let n : length (in-use held) ≡ held .used = length-take-le (held .used) (held .row) (omega arith) in
+    let n : length (in-use held) ≤ held .used = simp length-take (omega arith) in
     omega (arith, c .count-i-end .ensures (omega arith))
 
 pub add-a : need.add-a
 add-a g c =
     let held = c .args .held .now in
-    let len : length (held .row) ≡ 255 = search needs in
-    let n : length (in-use held) ≡ held .used = length-take-le (held .used) (held .row) (omega arith) in
+    let n : length (in-use held) ≤ held .used = simp length-take (omega arith) in
     let l = c .loop-i .inv .1 in
     record { fits = omega (arith, c .count-i-end .ensures (omega arith), l .order, plan-in (c .loop-i .b) (c .args .end) _ (l .plan)) }
 
 pub cast-a : need.cast-a
 cast-a g c =
     let held = c .args .held .now in
-    let len : length (held .row) ≡ 255 = search needs in
-    let n : length (in-use held) ≡ held .used = length-take-le (held .used) (held .row) (omega arith) in
+    let n : length (in-use held) ≤ held .used = simp length-take (omega arith) in
     let l = c .loop-i .inv .1 in
     record { fits = omega (arith, c .count-i-end .ensures (omega arith), l .order, plan-in (c .loop-i .b) (c .args .end) _ (l .plan)) }
 
 pub fill-behind-requires : need.fill-behind-requires
 fill-behind-requires g c κs =
     let held = c .args .held .now in
-    let len : length (held .row) ≡ 255 = search needs in
-    let n : length (in-use held) ≡ held .used = length-take-le (held .used) (held .row) (omega arith) in
+    let n : length (in-use held) ≤ held .used = simp length-take (omega arith) in
     let count = c .count-i-end .ensures (omega arith) in
     let l = c .loop-i .inv .1 in
     let a = laid-asks l (c .row-start-c .result) (omega arith) (c .row-start-c .ensures ∙ fence-two (in-use held) (c .args .end) (c .loop-i .i)) in
@@ -68,8 +62,7 @@ fill-behind-requires g c κs =
 pub add-reads : need.add-reads
 add-reads g c =
     let held = c .args .held .now in
-    let len : length (held .row) ≡ 255 = search needs in
-    let n : length (in-use held) ≡ held .used = length-take-le (held .used) (held .row) (omega arith) in
+    let n : length (in-use held) ≤ held .used = simp length-take (omega arith) in
     let count = c .count-i-end .ensures (omega arith) in
     let did = c .in-Continue-reads-2 .ensures tt in
     let l = laid-more (c .loop-i .inv .1) (c .row-start-c .result) (omega arith) (c .row-start-c .ensures ∙ fence-two (in-use held) (c .args .end) (c .loop-i .i)) (c .pre .short) (did .0) (did .1) in
@@ -85,14 +78,13 @@ loop-i-again g c =
     let inv = c .loop-i .inv in
     let old = c .loop-i .cells in
     let new = c .fill-behind .last .cells in
-    let len : length (held .row) ≡ 255 = search needs in
-    let n : length (in-use held) ≡ held .used = length-take-le (held .used) (held .row) (omega arith) in
+    let n : length (in-use held) ≤ held .used = simp length-take (omega arith) in
     let count = c .count-i-end .ensures (omega arith) in
     let e-is = c .row-start-c .ensures ∙ fence-two (in-use held) (c .args .end) i in
     let did = c .in-Continue-reads-2 .ensures tt in
     let asks = laid-asks (inv .1) e (omega arith) e-is in
     let w = b - a + 1 + (e - b + 1) in
-    let behind = agree-behind (a + i + w) (c .args .end + held .used + 1) new old (omega (arith, asks, inv .1 .order)) (sym (drop-drop w (a + i) new) ∙ did .0 .kept .behind ∙ drop-drop w (a + i) old) in (
+    let behind = agree-behind (a + i + w) (c .args .end + length (in-use held) + 1) new old (omega (arith, asks, inv .1 .order)) (sym (drop-drop w (a + i) new) ∙ did .0 .kept .behind ∙ drop-drop w (a + i) old) in (
       omega arith,
       laid-more (inv .1) e (omega arith) e-is (c .pre .short) (did .0) (did .1),
       behind ∙ inv .2,
@@ -105,15 +97,14 @@ returns g c =
     let held = c .args .held .now in
     let end = c .args .end in
     let inv = c .loop-i .inv in
-    let len : length (held .row) ≡ 255 = search needs in
-    let n : length (in-use held) ≡ held .used = length-take-le (held .used) (held .row) (omega arith) in
+    let n : length (in-use held) ≤ held .used = simp length-take (omega arith) in
     let count = c .count-i-end .ensures (omega arith) in
-    let all : c .loop-i .i ≡ held .used = omega arith in
-    let last = laid-last (inv .1) (all ∙ sym n) in
+    let all : c .loop-i .i ≡ length (in-use held) = omega arith in
+    let last = laid-last (inv .1) all in
     let first = c .in-Continue-reads .ensures tt in
     let u = plan-under 0 end (in-use held) 0 (c .pre .plan) (omega arith) in
     record {
       cells = subst (λ z. map (k .means) (take (end + z + 1) (c .loop-i .cells)) ≡ joined-cells (rows (k .costs) s (in-use held) end)) all (last .0);
       reads = last .1;
-      behind = inv .2 ∙ agree-behind (c .row-start-b .result + 1) (end + held .used + 1) (c .fill-first .last .cells) (c .args .cells .now) (omega (arith, u, c .row-start-b .ensures)) (first .behind);
+      behind = inv .2 ∙ agree-behind (c .row-start-b .result + 1) (end + length (in-use held) + 1) (c .fill-first .last .cells) (c .args .cells .now) (omega (arith, u, c .row-start-b .ensures)) (first .behind);
     }

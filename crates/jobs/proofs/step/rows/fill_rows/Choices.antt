@@ -8,7 +8,7 @@ use Rattle.jobs.proofs.step.rows.fill_rows.Given as given
 
 abbrev pub Inv-loop-i : given.InvT-loop-i
 Inv-loop-i g l =
-    let n = l .end + l .held .used + 1 in
+    let n = l .end + length (in-use (l .held)) + 1 in
     (length (l .cells) ≡ length (l .entry .cells))
     × Laid (g .Kind·Kind) (meant (g .Kind·Kind) (g .S·Source) (l .source)) (in-use (l .held)) (l .end) (l .cells) (l .a) (l .b) (l .i) (l .reads)
     × (drop n (l .cells) ≡ drop n (l .entry .cells))
