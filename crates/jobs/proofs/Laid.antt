@@ -2,7 +2,7 @@
 use mathlib.Core.Path.{_≡_, sym, _∙_, ap, subst}
 use mathlib.Core.List.{List, [], _∷_, _++_, map}
 use Prim.Native.Nat.{ℕ, suc, _+_, _-_, _*_, _≤_, _<_}
-use native.Mathlib.Nat.{mul-le-mul-right, mul-le-mul-left}
+use native.Mathlib.Nat.{mul-le-mul-right}
 use native.Mathlib.Omega.{arith}
 use lib.ListN.{length, getD, set, take, drop}
 use lib.Seq.{take-add}
@@ -119,14 +119,14 @@ module _ {V : Type 0} {k : kind.Ghosts V} {s : Scale (k .costs)} {held : List �
         let at : a + i + (b - a + 1) ≡ b + (i + 1) = omega (arith, l .order) in
         let at′ : b + (i + 1) ≡ b + i + 1 = omega arith in
         let own : map means (take (c - b + 1) (drop (b + (i + 1)) vs′)) ≡ next K s cur c .cells =
-            ap (λ z. map means (take (c - b + 1) (drop z vs′))) (sym at) ∙ ap (λ zs. map means (take (c - b + 1) zs)) (sym (drop-drop (b - a + 1) (a + i) vs′)) ∙ f .row in
+        ap (λ z. map means (take (c - b + 1) (drop z vs′))) (sym at) ∙ ap (λ zs. map means (take (c - b + 1) zs)) (sym (drop-drop (b - a + 1) (a + i) vs′)) ∙ f .row in
         let row : row-at k b c (drop (b + (i + 1)) vs′) ≡ next K s cur c = ap (λ cs. record { from = b; to = c; cells = cs }) own in
         let same : take (b + i + 1) vs′ ≡ take (b + i + 1) vs = agree-before (a + i) (b - a + 1) (b + i + 1) vs′ vs (at ∙ at′) before (f .kept .above) in
         let J = joined-cells (rows-behind K s (next K s cur c) rest) in
         let wide : b + (i + 1) + (c - b + 1) ≡ c + (i + 1) + 1 = omega (arith, laid-asks) in
         let split : map means (take (c + (i + 1) + 1) vs′) ≡ map means (take (b + i + 1) vs) ++ next K s cur c .cells =
-            ap (λ z. map means (take z vs′)) (sym wide) ∙ ap (map means) (take-add (b + (i + 1)) (c - b + 1) vs′) ∙ map-append means (take (b + (i + 1)) vs′) (take (c - b + 1) (drop (b + (i + 1)) vs′))
-            ∙ ap (λ zs. map means (take (b + (i + 1)) vs′) ++ zs) own ∙ ap (λ z. map means (take z vs′) ++ next K s cur c .cells) at′ ∙ ap (λ zs. map means zs ++ next K s cur c .cells) same in
+        ap (λ z. map means (take z vs′)) (sym wide) ∙ ap (map means) (take-add (b + (i + 1)) (c - b + 1) vs′) ∙ map-append means (take (b + (i + 1)) vs′) (take (c - b + 1) (drop (b + (i + 1)) vs′))
+        ∙ ap (λ zs. map means (take (b + (i + 1)) vs′) ++ zs) own ∙ ap (λ z. map means (take z vs′) ++ next K s cur c .cells) at′ ∙ ap (λ zs. map means zs ++ next K s cur c .cells) same in
         record {
           order = laid-asks .0;
           here = c-is;

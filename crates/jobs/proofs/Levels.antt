@@ -10,7 +10,7 @@ use Rattle.std.proofs.shelf.Tests.{cases-lt, cases-eq}
 use Rattle.std.proofs.shelf.Lists.{getD-set-same, getD-set-other, length-set}
 use Rattle.costs.specs.Costs.{Costs}
 use Rattle.sources.specs.Scales.{Scale}
-use Rattle.plans.specs.Steps.{Row, via, earliest, refined, between-reads}
+use Rattle.plans.specs.Steps.{Row, via, refined, between-reads}
 use Rattle.plans.proofs.Tables.{Rising, by-halves, twice, starts, refined-even, refined-odd, refined-absent, refined-rising, telescoped}
 use Rattle.jobs.specs.Filled.{held, table, Worked, Least, Level}
 use Rattle.jobs.proofs.Places.{held-absent, held-set-same, held-set-other}

@@ -1,7 +1,7 @@
 -- Whole steps: their reads are few, their cells lie over those that were lent, and one follows another.
 use mathlib.Core.Path.{_≡_, refl, sym, _∙_, ap, subst}
 use mathlib.Core.Bool.{cond}
-use mathlib.Core.List.{List, [], _++_, map}
+use mathlib.Core.List.{List, _++_, map}
 use Prim.Native.Nat.{ℕ, suc, _+_, _*_, _≤_, _<_}
 use native.Mathlib.Nat.{mul-le-mul-left}
 use native.Mathlib.Omega.{arith}
@@ -20,7 +20,7 @@ use Rattle.plans.proofs.Climbs.{climb-length, climb-plan}
 use Rattle.plans.proofs.Logs.{log2-low, log2-high, log2-most}
 use Rattle.jobs.specs.declared.step.Stepped.{Stepped}
 use Rattle.jobs.specs.Jobs.{in-use}
-use Rattle.jobs.specs.Left.{Left, StepLeft, ClimbLeft}
+use Rattle.jobs.specs.Left.{StepLeft, ClimbLeft}
 use Rattle.jobs.proofs.Laid.{agree-behind}
 
 -- a step reads few costs, whatever they are

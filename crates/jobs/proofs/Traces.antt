@@ -85,7 +85,7 @@ module _ (K : Costs) (s : Scale K) (held : List ℕ) (end : ℕ) (cs : List (K .
         let o = fence-order held end plan i h in
         let at : fence i + i + (fence (i + 1) - fence i + 1) ≡ fence (i + 1) + (i + 1) = omega arith in
         let next-is : drop i (held ++ end ∷ []) ≡ fence (i + 1) ∷ drop (i + 1) (held ++ end ∷ []) =
-            drop-more (held ++ end ∷ []) i 0 (omega (arith, length-push held end)) ∙ ap (λ z. z ∷ drop (i + 1) (held ++ end ∷ [])) (sym (fence-next held end i)) in
+        drop-more (held ++ end ∷ []) i 0 (omega (arith, length-push held end)) ∙ ap (λ z. z ∷ drop (i + 1) (held ++ end ∷ [])) (sym (fence-next held end i)) in
         ap (λ zs. cut (fence i) zs (drop (fence i + i) cs)) next-is
         ∙ ap (λ zs. row i ∷ cut (fence (i + 1)) (drop (i + 1) (held ++ end ∷ [])) zs) (drop-drop (fence (i + 1) - fence i + 1) (fence i + i) cs ∙ ap (λ z. drop z cs) at)
 
@@ -94,7 +94,7 @@ module _ (K : Costs) (s : Scale K) (held : List ℕ) (end : ℕ) (cs : List (K .
       traced-is : traced K s (from-row i) end ≡ at ∷ traced K s (from-row (i + 1)) end
       traced-is =
           let at-is : at ≡ earliest (K .le) (via K s (row i) (head-or end (traced K s (from-row (i + 1)) end))) (fence i) (fence (i + 1) - fence i) =
-              l .place ∙ ap (λ z. earliest (K .le) (via K s (row i) z) (fence i) (fence (i + 1) - fence i)) y in
+          l .place ∙ ap (λ z. earliest (K .le) (via K s (row i) z) (fence i) (fence (i + 1) - fence i)) y in
           ap (λ rs. traced K s rs end) (row-first i h) ∙ ap (λ z. z ∷ traced K s (from-row (i + 1)) end) (sym at-is)
 
       place-is : at ≡ head-or end (traced K s (from-row i) end)

@@ -6,7 +6,6 @@ ghost use Rattle.sources.specs.Meant.{meant};
 ghost use Rattle.jobs.specs.Left.{Ready, StepLeft, ClimbLeft};
 use crate::cuts::Cuts;
 use crate::step::rows::fill_rows;
-use costs::Kind;
 use sources::Source;
 
 mod level;
@@ -23,8 +22,13 @@ pub struct Stepped<K> {
     pub reads: u64,
 }
 
-// The same, where each cost asked for is there.
-fn try_step<S: Source>(source: &S, held: &Cuts, end: u32, cells: &mut [S::Kind]) -> Option<Stepped<S::Kind>>
+// Fills the rows and traces the new cuts through them. Each cost that it asks for is there, and so is the answer.
+fn try_step<S: Source>(
+    source: &S,
+    held: &Cuts,
+    end: u32,
+    cells: &mut [S::Kind],
+) -> Option<Stepped<S::Kind>>
     requires { ⌜ Ready (now held) end (S·Source .last (now source)) (length (now cells)) ⌝ }
     ensures { λ r. ⌜ Cases r ⊥ (λ t. StepLeft Kind·Kind (meant Kind·Kind S·Source (now (source .entry))) (now (held .entry)) end (now (cells .entry)) (now (cells .exit)) t) ⌝ }
 {
@@ -38,7 +42,7 @@ fn try_step<S: Source>(source: &S, held: &Cuts, end: u32, cells: &mut [S::Kind])
     })
 }
 
-// One cut more at the end `end`, into the lent cells.
+// One cut more than the held ones, at the end `end`. The rows go into the lent cells.
 pub fn step<S: Source>(source: &S, held: &Cuts, end: u32, cells: &mut [S::Kind]) -> Stepped<S::Kind>
     requires { ⌜ Ready (now held) end (S·Source .last (now source)) (length (now cells)) ⌝ }
     ensures { λ r. ⌜ StepLeft Kind·Kind (meant Kind·Kind S·Source (now (source .entry))) (now (held .entry)) end (now (cells .entry)) (now (cells .exit)) r ⌝ }

@@ -12,7 +12,6 @@ ghost use Rattle.jobs.specs.Left.{Ready, fence, row-in, Trace};
 use crate::cuts::Cuts;
 use crate::step::search::Found;
 use crate::step::search::search_least;
-use costs::Kind;
 use sources::Source;
 
 // The total of the new cuts, and the reads that found them.
@@ -38,7 +37,14 @@ impl Cuts {
     }
 
     // The earliest least place of row `i` of the cells on the way to `next`.
-    fn least_of_row<S: Source>(&self, source: &S, i: u32, end: u32, next: u32, cells: &[S::Kind]) -> Option<Found<S::Kind>>
+    fn least_of_row<S: Source>(
+        &self,
+        source: &S,
+        i: u32,
+        end: u32,
+        next: u32,
+        cells: &[S::Kind],
+    ) -> Option<Found<S::Kind>>
         requires { ⌜ (now self .used < 255) × (i ≤ now self .used) × (fence (now self) end i ≤ fence (now self) end (i + 1)) × (fence (now self) end (i + 1) ≤ next) × (next ≤ S·Source .last (now source)) × (next ≤ 4096) × (fence (now self) end (i + 1) + i + 1 ≤ length (now cells)) ⌝ }
         ensures { λ r. ⌜ Cases r ⊥ (λ f. Least (Kind·Kind .costs) (meant Kind·Kind S·Source (now (source .entry))) (row-in Kind·Kind (now (self .entry)) end i (now (cells .entry))) (fence (now (self .entry)) end i) (fence (now (self .entry)) end (i + 1)) next (f .place) (Kind·Kind .means (f .cost)) (f .reads)) ⌝ }
     {
@@ -50,7 +56,12 @@ impl Cuts {
     }
 
     // Puts the new cuts, found from the last row of the cells to the first, in the place of those held.
-    pub fn trace<S: Source>(&mut self, source: &S, end: u32, cells: &[S::Kind]) -> Option<Traced<S::Kind>>
+    pub fn trace<S: Source>(
+        &mut self,
+        source: &S,
+        end: u32,
+        cells: &[S::Kind],
+    ) -> Option<Traced<S::Kind>>
         requires ready { ⌜ Ready (now self) end (S·Source .last (now source)) (length (now cells)) ⌝ }
         requires filled { ⌜ map (Kind·Kind .means) (take (end + length (in-use (now self)) + 1) (now cells)) ≡ joined-cells (rows (Kind·Kind .costs) (meant Kind·Kind S·Source (now source)) (in-use (now self)) end) ⌝ }
         ensures { λ r. ⌜ Cases r ⊥ (λ t. Trace (Kind·Kind .costs) (meant Kind·Kind S·Source (now (source .entry))) (now (self .entry)) (now (self .exit)) end (Kind·Kind .means (t .total)) (t .reads)) ⌝ }

@@ -7,7 +7,6 @@ ghost use Rattle.std.specs.Options.{Cases};
 ghost use Rattle.sources.specs.Meant.{meant};
 ghost use Rattle.jobs.specs.Filled.{row-at, held, table, Worked, Level, Kept};
 use crate::step::search::search_least;
-use costs::Kind;
 use sources::Source;
 
 // The place kept for the number `m` of `q`, where the row above goes from place `a` to place `b`.
@@ -25,7 +24,15 @@ fn found_at(places: &[u32; 4097], a: u32, b: u32, q: usize, m: usize) -> u32
 }
 
 // Works the odd multiples of `d` and returns the reads. The cells begin with the row above, from place `a` to place `b`, and go on with the `q` cells of the row.
-pub fn fill_level<S: Source>(source: &S, cells: &mut [S::Kind], a: u32, b: u32, q: usize, places: &mut [u32; 4097], d: usize) -> Option<u64>
+pub fn fill_level<S: Source>(
+    source: &S,
+    cells: &mut [S::Kind],
+    a: u32,
+    b: u32,
+    q: usize,
+    places: &mut [u32; 4097],
+    d: usize,
+) -> Option<u64>
     requires fits { ⌜ (a ≤ b) × (q ≤ 4097) × (b - a + 1 + q ≤ length (now cells)) × (b + q ≤ S·Source .last (now source) + 1) × (b ≤ 4096) ⌝ }
     requires step { ⌜ (0 < d) × (d ≤ q) ⌝ }
     requires worked { ⌜ Worked (Kind·Kind .costs) (meant Kind·Kind S·Source (now source)) (row-at Kind·Kind a b (now cells)) q (b - a + 1) (2 * d) (table a b q (now places) (2 * d)) (map (Kind·Kind .means) (now cells)) ⌝ }

@@ -6,7 +6,6 @@ ghost use Rattle.sources.specs.Meant.{meant};
 ghost use Rattle.jobs.specs.Left.{Ready, FirstRow, Rows};
 use crate::cuts::Cuts;
 use crate::step::row::fill_behind;
-use costs::Kind;
 use sources::Source;
 
 // Fills row 0, the costs from place 0 to each place up to `x`, and returns the reads.

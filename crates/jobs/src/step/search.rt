@@ -1,5 +1,4 @@
 // The search of a row for its earliest least place.
-ghost use mathlib.Core.Path.{_≡_};
 ghost use Prim.Native.Nat.{_-_, _≤_, _<_};
 ghost use lib.ListN.{length};
 ghost use Rattle.std.specs.Options.{Cases};
@@ -17,7 +16,14 @@ pub struct Found<K> {
 }
 
 // The earliest least place from `lo` to `hi` on the way to `y` through the row above, whose cells start at the place `base`.
-pub fn search_least<S: Source>(source: &S, above: &[S::Kind], base: u32, lo: u32, hi: u32, y: u32) -> Option<Found<S::Kind>>
+pub fn search_least<S: Source>(
+    source: &S,
+    above: &[S::Kind],
+    base: u32,
+    lo: u32,
+    hi: u32,
+    y: u32,
+) -> Option<Found<S::Kind>>
     requires { ⌜ (base ≤ lo) × (lo ≤ hi) × (hi - base < length (now above)) × (hi ≤ y) × (y ≤ S·Source .last (now source)) ⌝ }
     ensures { λ r. ⌜ Cases r ⊥ (λ f. Least (Kind·Kind .costs) (meant Kind·Kind S·Source (now (source .entry))) (row-of Kind·Kind base hi (now (above .entry))) lo hi y (f .place) (Kind·Kind .means (f .cost)) (f .reads)) ⌝ }
 {

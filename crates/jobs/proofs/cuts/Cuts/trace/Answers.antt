@@ -6,7 +6,7 @@ use borrow.Author.Needs.{needs}
 use lib.ListN.{length, getD, take}
 use Rattle.std.proofs.shelf.Lists.{length-take-le, length-set, take-map}
 use Rattle.sources.specs.Meant.{meant}
-use Rattle.plans.specs.Steps.{Row, traced, traced-reads, reached}
+use Rattle.plans.specs.Steps.{traced, traced-reads, reached}
 use Rattle.plans.specs.Theorems.{fenced}
 use Rattle.jobs.specs.Filled.{Least}
 use Rattle.jobs.specs.Jobs.{in-use}
