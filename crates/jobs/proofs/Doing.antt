@@ -24,7 +24,7 @@ use Rattle.jobs.specs.declared.step.Stepped.{Stepped}
 use Rattle.jobs.specs.Calls.{Opened, State, opened, Answer, refused, counted, refuse, planned, stepped, does, No-room, filled, touched}
 use Rattle.jobs.specs.Jobs.{in-use, plan-of, at-stage, state-of, Did}
 use Rattle.jobs.specs.Cuts.{Rising, Within}
-use Rattle.jobs.specs.Stepping.{Came}
+use Rattle.jobs.specs.Left.{Left}
 use Rattle.jobs.proofs.PlansInUse.{rising-from, within-from}
 
 module _ (K : Costs) (s : Scale K) (o : Opened K) (e n : ℕ) (cells : List (K .Cost)) (t : steps.Stepped K) where
@@ -56,7 +56,7 @@ module _ {V S : Type 0} (k : kind.Ghosts V) (s : Scale (k .costs)) (j : Job S V)
       ∙ sym (planned-refused (k .costs) s (plan-of k j) e n (map (k .means) cells) t why (rw (length-map cells (k .means)) h))
 
 -- an open job that holds what stepping left
-module _ {V : Type 0} (k : kind.Ghosts V) (s : Scale (k .costs)) {stage : Stage} (is-open : stage ≡ Open) (e : ℕ) {t : steps.Stepped (k .costs)} {past : ℕ} {old new : List V} {r : Stepped V} (came : Came k t past old new r) where
+module _ {V : Type 0} (k : kind.Ghosts V) (s : Scale (k .costs)) {stage : Stage} (is-open : stage ≡ Open) (e : ℕ) {t : steps.Stepped (k .costs)} {m past : ℕ} {old new : List V} {r : Stepped V} (came : Left k t m past old new r) where
   abbrev after : State (k .costs)
   after = at-stage stage (record { end = e; cuts = in-use (r .cuts); total = k .means (r .total) })
 
@@ -77,9 +77,9 @@ pub touched-some : (e n : ℕ) → 0 < n → touched e n ≡ e + n
 touched-some e n h = cond-false _ _ _ (ne-eqb n 0 (omega arith))
 
 -- the cuts that stepping left never fall and keep to the end
-module _ {V : Type 0} {k : kind.Ghosts V} {t : steps.Stepped (k .costs)} {past : ℕ} {old new : List V} {r : Stepped V} (came : Came k t past old new r) where
+module _ {V : Type 0} {k : kind.Ghosts V} {t : steps.Stepped (k .costs)} {n past : ℕ} {old new : List V} {r : Stepped V} (came : Left k t n past old new r) (number : length (t .cuts) ≡ n) where
   long : length (in-use (r .cuts)) ≡ r .cuts .used
-  long = ap length (came .cuts) ∙ sym (came .used)
+  long = ap length (came .cuts) ∙ number ∙ sym (came .used)
 
   came-plan : (e : ℕ) → Plan 0 (t .cuts) e → Plan 0 (in-use (r .cuts)) e
   came-plan e p = rw (came .cuts) p

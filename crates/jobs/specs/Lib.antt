@@ -4,4 +4,5 @@ pub mod Calls
 pub mod Lives
 pub mod Runs
 pub mod Jobs
-pub mod Stepping
+pub mod Filled
+pub mod Left

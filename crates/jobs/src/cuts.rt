@@ -5,6 +5,8 @@ ghost use lib.ListN.{length, replicate};
 ghost use Rattle.jobs.specs.Calls.{nth-cut};
 ghost use Rattle.jobs.specs.Jobs.{in-use};
 
+pub mod trace;
+
 // The first `used` of the row are the cuts.
 #[derive(Clone, Copy)]
 pub struct Cuts {

@@ -29,9 +29,10 @@ ghost-self g c =
     let cells = map (k .means) (c .args .cells .now) in
     let short : e ≤ longest = omega (arith, c .in-Continue-check-room .ensures tt .0) in
     let came = c .climb-stepped .ensures in
+    let number = climb-length (k .costs) s e cells (c .args .count) in
     let plan = climb-plan (k .costs) s e cells (c .args .count) in (
       short,
-      (omega (arith, came .used, climb-length (k .costs) s e cells (c .args .count), c .pre .1), (came-rising came e plan, (came-within came e plan, tt))),
+      (omega (arith, came .used, c .pre .1), (came-rising came number e plan, (came-within came number e plan, tt))),
     )
 
 pub returns : need.returns

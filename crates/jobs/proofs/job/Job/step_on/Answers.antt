@@ -6,6 +6,7 @@ use lib.ListN.{length}
 use Rattle.std.proofs.shelf.Results.{err-from-errBy}
 use Rattle.sources.specs.Meant.{meant}
 use Rattle.plans.specs.Limits.{longest}
+use Rattle.plans.specs.Steps.{step}
 use Rattle.plans.proofs.Shapes.{step-length, step-plan}
 use Rattle.jobs.specs.Calls.{touched}
 use Rattle.jobs.specs.Jobs.{in-use}
@@ -34,7 +35,13 @@ step-stepped-requires g c κs =
     let counted = c .count-count .ensures in
     let long : length (in-use (job .cuts)) ≡ job .cuts .used = sym (counted .length (job .few)) ∙ counted .value in
     let room = c .in-Continue-check-room .ensures tt in
-    (plan-from (job .cuts .row) (job .cuts .used) (job .end) long (job .rising) (job .within), omega (arith, counted .value), omega (arith, room .0), omega (arith, room .0), omega (arith, room .1, counted .value))
+    record {
+      plan = plan-from (job .cuts .row) (job .cuts .used) (job .end) long (job .rising) (job .within);
+      few = omega (arith, counted .value);
+      within = omega (arith, room .0);
+      short = omega (arith, room .0);
+      room = omega (arith, room .1, counted .value);
+    }
 
 pub ghost-self : need.ghost-self
 ghost-self g c =
@@ -44,9 +51,10 @@ ghost-self g c =
     let counted = c .count-count .ensures in
     let long : length (in-use (job .cuts)) ≡ job .cuts .used = sym (counted .length (job .few)) ∙ counted .value in
     let came = c .step-stepped .ensures in
+    let number : length (step (k .costs) s (in-use (job .cuts)) (job .end) .cuts) ≡ job .cuts .used + 1 = omega (arith, step-length (k .costs) s (in-use (job .cuts)) (job .end), long) in
     let plan = step-plan (k .costs) s (in-use (job .cuts)) (job .end) (plan-from (job .cuts .row) (job .cuts .used) (job .end) long (job .rising) (job .within)) in (
       job .short,
-      (omega (arith, came .used, step-length (k .costs) s (in-use (job .cuts)) (job .end), long, counted .value), (came-rising came (job .end) plan, (came-within came (job .end) plan, tt))),
+      (omega (arith, came .used, counted .value), (came-rising came number (job .end) plan, (came-within came number (job .end) plan, tt))),
     )
 
 pub returns : need.returns
