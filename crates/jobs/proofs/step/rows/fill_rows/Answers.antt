@@ -28,33 +28,33 @@ pub add-i : need.add-i
 add-i g c =
     let held = c .args .held .now in
     let n : length (in-use held) ≤ held .used = simp length-take (omega arith) in
-    record { fits = omega (arith, c .count-i-end .ensures (omega arith)) }
+    record { fits = omega (arith, c .count-i-end .ensures .length (omega arith)) }
 
 pub row-start-c-requires : need.row-start-c-requires
 row-start-c-requires g c κs =
     let held = c .args .held .now in
     let n : length (in-use held) ≤ held .used = simp length-take (omega arith) in
-    omega (arith, c .count-i-end .ensures (omega arith))
+    omega (arith, c .count-i-end .ensures .length (omega arith))
 
 pub add-a : need.add-a
 add-a g c =
     let held = c .args .held .now in
     let n : length (in-use held) ≤ held .used = simp length-take (omega arith) in
     let l = c .loop-i .inv .1 in
-    record { fits = omega (arith, c .count-i-end .ensures (omega arith), l .order, plan-in (c .loop-i .b) (c .args .end) _ (l .plan)) }
+    record { fits = omega (arith, c .count-i-end .ensures .length (omega arith), l .order, plan-in (c .loop-i .b) (c .args .end) _ (l .plan)) }
 
 pub cast-a : need.cast-a
 cast-a g c =
     let held = c .args .held .now in
     let n : length (in-use held) ≤ held .used = simp length-take (omega arith) in
     let l = c .loop-i .inv .1 in
-    record { fits = omega (arith, c .count-i-end .ensures (omega arith), l .order, plan-in (c .loop-i .b) (c .args .end) _ (l .plan)) }
+    record { fits = omega (arith, c .count-i-end .ensures .length (omega arith), l .order, plan-in (c .loop-i .b) (c .args .end) _ (l .plan)) }
 
 pub fill-behind-requires : need.fill-behind-requires
 fill-behind-requires g c κs =
     let held = c .args .held .now in
     let n : length (in-use held) ≤ held .used = simp length-take (omega arith) in
-    let count = c .count-i-end .ensures (omega arith) in
+    let count = c .count-i-end .ensures .length (omega arith) in
     let l = c .loop-i .inv .1 in
     let a = laid-asks l (c .row-start-c .result) (omega arith) (c .row-start-c .ensures ∙ fence-two (in-use held) (c .args .end) (c .loop-i .i)) in
     (l .order, a .0, omega (arith, a), omega (arith, a), omega (arith, a, l .order, c .loop-i .inv .0))
@@ -63,7 +63,7 @@ pub add-reads : need.add-reads
 add-reads g c =
     let held = c .args .held .now in
     let n : length (in-use held) ≤ held .used = simp length-take (omega arith) in
-    let count = c .count-i-end .ensures (omega arith) in
+    let count = c .count-i-end .ensures .length (omega arith) in
     let did = c .in-Continue-reads-2 .ensures tt in
     let l = laid-more (c .loop-i .inv .1) (c .row-start-c .result) (omega arith) (c .row-start-c .ensures ∙ fence-two (in-use held) (c .args .end) (c .loop-i .i)) (c .pre .short) (did .0) (did .1) in
     record { fits = omega (arith, l .few) }
@@ -79,7 +79,7 @@ loop-i-again g c =
     let old = c .loop-i .cells in
     let new = c .fill-behind .last .cells in
     let n : length (in-use held) ≤ held .used = simp length-take (omega arith) in
-    let count = c .count-i-end .ensures (omega arith) in
+    let count = c .count-i-end .ensures .length (omega arith) in
     let e-is = c .row-start-c .ensures ∙ fence-two (in-use held) (c .args .end) i in
     let did = c .in-Continue-reads-2 .ensures tt in
     let asks = laid-asks (inv .1) e (omega arith) e-is in
@@ -98,7 +98,7 @@ returns g c =
     let end = c .args .end in
     let inv = c .loop-i .inv in
     let n : length (in-use held) ≤ held .used = simp length-take (omega arith) in
-    let count = c .count-i-end .ensures (omega arith) in
+    let count = c .count-i-end .ensures .length (omega arith) in
     let all : c .loop-i .i ≡ length (in-use held) = omega arith in
     let last = laid-last (inv .1) all in
     let first = c .in-Continue-reads .ensures tt in
