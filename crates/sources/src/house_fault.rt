@@ -18,9 +18,9 @@ impl HouseFault {
         ensures { λ r. ⌜ r ≡ fault-number self ⌝ }
     {
         match self {
-            HouseFault::Length => 11,
-            HouseFault::BadCount(_) => 12,
-            HouseFault::Memory => 99,
+            Self::Length => 11,
+            Self::BadCount(_) => 12,
+            Self::Memory => 99,
         }
     }
 
@@ -29,8 +29,8 @@ impl HouseFault {
         ensures { λ r. ⌜ r ≡ fault-index self ⌝ }
     {
         match self {
-            HouseFault::BadCount(index) => index,
-            HouseFault::Length | HouseFault::Memory => 0,
+            Self::BadCount(index) => index,
+            Self::Length | Self::Memory => 0,
         }
     }
 }

@@ -23,7 +23,7 @@ pub struct Traced<K> {
 
 impl Cuts {
     // The place where row `i` of a step starts: 0, the cut before it, or the end, where the last row stops.
-    pub fn row_start(&self, i: u32, end: u32) -> u32
+    pub(crate) fn row_start(&self, i: u32, end: u32) -> u32
         requires { ⌜ (now self .used ≤ 255) × (i ≤ now self .used + 1) ⌝ }
         ensures { λ r. ⌜ r ≡ fence (now (self .entry)) end i ⌝ }
     {
@@ -56,7 +56,7 @@ impl Cuts {
     }
 
     // Puts the new cuts, found from the last row of the cells to the first, in the place of those held.
-    pub fn trace<S: Source>(
+    pub(crate) fn trace<S: Source>(
         &mut self,
         source: &S,
         end: u32,

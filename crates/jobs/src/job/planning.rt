@@ -69,11 +69,11 @@ impl<S: Source> Job<S> {
         ensures kept { λ r. ⌜ drop (filled (state-of Kind·Kind (now (self .exit))) (counting Kind·Kind r)) (now (cells .exit)) ≡ drop (filled (state-of Kind·Kind (now (self .exit))) (counting Kind·Kind r)) (now (cells .entry)) ⌝ }
     {
         self.check_room(end, count, cells.len())?;
-        let stepped = climb(&self.source, end, count, cells);
-        self.cuts = stepped.cuts;
+        let climbed = climb(&self.source, end, count, cells);
+        self.cuts = climbed.cuts;
         self.end = end;
-        self.total = stepped.total;
-        Ok(stepped.reads)
+        self.total = climbed.total;
+        Ok(climbed.reads)
     }
 
     // Refuses an end beyond that of the source, and fewer cells than a plan with `count` cuts at the end needs.

@@ -28,7 +28,7 @@ ghost-self g c =
     let e = c .args .end in
     let cells = map (k .means) (c .args .cells .now) in
     let short : e ≤ longest = omega (arith, c .in-Continue-check-room .ensures tt .0) in
-    let came = c .climb-stepped .ensures in
+    let came = c .climb-climbed .ensures in
     let number = climb-length (k .costs) s e cells (c .args .count) in
     let plan = climb-plan (k .costs) s e cells (c .args .count) in (
       short,
@@ -42,7 +42,7 @@ returns g c =
     let e = c .args .end in
     let n = c .args .count in
     let cells = map (k .means) (c .args .cells .now) in
-    let came = c .climb-stepped .ensures in
+    let came = c .climb-climbed .ensures in
     let room = c .in-Continue-check-room .ensures tt in
     record {
       source = refl;
