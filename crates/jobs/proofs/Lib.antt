@@ -12,4 +12,5 @@ pub mod PowerTable
 pub mod Stepping
 pub mod Doing
 pub mod Running
+pub mod Tellings
 pub mod Lives

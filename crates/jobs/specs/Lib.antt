@@ -1,6 +1,7 @@
 pub mod Cuts
 pub mod Refusals
 pub mod Calls
+pub mod Openings
 pub mod Lives
 pub mod Runs
 pub mod Jobs

@@ -1,5 +1,6 @@
 -- Glebov's condition, square by square, and the first cost or square of a scale that fails a test.
-use mathlib.Core.Bool.{Bool, cond, not}
+use mathlib.Core.Path.{_≡_}
+use mathlib.Core.Bool.{Bool, true, false, cond, not}
 use Prim.Native.Nat.{ℕ, zero, suc, _+_, _<_}
 use lib.Dec.{T, ltb}
 use Rattle.std.specs.declared.option.Option.{Option}
@@ -46,3 +47,21 @@ first-large K s = first-pair (too-large K s) (λ y. y + 1) (s .last + 1) 0
 -- the first square (i, j), 0 ≤ i < j < last, that fails: the smallest j, then the smallest i
 abbrev pub first-broken : (K : Costs) → Scale K → Option (ℕ × ℕ)
 first-broken K s = first-pair (λ i j. not (holds K s i j)) (λ j. j) (s .last) 0
+
+-- (x, y) is the first bad pair of those with y below k and x below the width of y: the smallest y, and then the smallest x
+pub record First-bad-pair (bad : ℕ → ℕ → Bool) (width : ℕ → ℕ) (k x y : ℕ) : Type 0 where
+  pub row : y < k
+  pub place : x < width y
+  pub there : bad x y ≡ true
+  pub rows-before : (v w : ℕ) → w < y → v < width w → bad v w ≡ false
+  pub places-before : (v : ℕ) → v < x → bad v y ≡ false
+
+-- the first class whose cost is too large, and the first square that fails, in these words
+abbrev pub First-large : (K : Costs) → Scale K → ℕ → ℕ → Type 0
+First-large K s x y = First-bad-pair (too-large K s) (λ v. v + 1) (s .last + 1) x y
+
+abbrev pub First-broken : (K : Costs) → Scale K → ℕ → ℕ → Type 0
+First-broken K s i j = First-bad-pair (λ v w. not (holds K s v w)) (λ w. w) (s .last) i j
+
+abbrev pub Firsts-are-first : Costs → Type 0
+Firsts-are-first K = (s : Scale K) (x y : ℕ) → (first-large K s ≡ Some (x, y) → First-large K s x y) × (first-broken K s ≡ Some (x, y) → First-broken K s x y)

@@ -29,6 +29,7 @@ pub use prices::price;
 pub use source::Source;
 pub use squares::first_broken_square;
 pub use squares::first_too_large;
+pub use squares::firsts_are_first;
 pub use squares::squares_decide;
 pub use table::Table;
 pub use table::TableFault;

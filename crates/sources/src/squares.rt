@@ -6,7 +6,7 @@ ghost use Rattle.std.specs.declared.option.Option.the-variants.{Some, None};
 ghost use Rattle.costs.specs.Limits.{largest};
 ghost use Rattle.sources.specs.Meant.{meant};
 ghost use Rattle.sources.specs.Scales.{Sized, Glebov};
-ghost use Rattle.sources.specs.Squares.{holds, too-large, first-in, first-large, first-broken, Squares, Squares-decide};
+ghost use Rattle.sources.specs.Squares.{holds, too-large, first-in, first-large, first-broken, Squares, Squares-decide, Firsts-are-first};
 use crate::source::Source;
 use costs::Kind;
 use costs::LARGEST;
@@ -14,6 +14,11 @@ use costs::LARGEST;
 // For costs of size up to the largest, Glebov's condition holds exactly if all squares hold.
 pub fn squares_decide<V: Kind>()
     ensures { λ _. ⌜ Squares-decide (V·Kind .costs) ⌝ }
+{}
+
+// The first class or square that fails a test is bad, and none before it.
+pub fn firsts_are_first<V: Kind>()
+    ensures { λ _. ⌜ Firsts-are-first (V·Kind .costs) ⌝ }
 {}
 
 // Is the cost from `x` to `y` above the largest?

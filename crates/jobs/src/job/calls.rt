@@ -2,7 +2,9 @@
 ghost use mathlib.Core.Path.{_≡_};
 ghost use mathlib.Core.List.{[]};
 ghost use Prim.Native.Nat.{ℕ};
+ghost use Rattle.sources.specs.Meant.{meant};
 ghost use Rattle.jobs.specs.Calls.{shut};
+ghost use Rattle.jobs.specs.Openings.{Tells};
 ghost use Rattle.jobs.specs.declared.call.Call.the-variants.{OpenChecked, OpenVouched, Add, Drop, Reach, Look};
 ghost use Rattle.jobs.specs.Jobs.{Did, state-of, in-use, answer-of, opening, counting, looking, Is-opening, Is-count};
 use crate::answer::Answer;
@@ -34,7 +36,8 @@ impl<S: Source> Job<S> {
 
     // Opens the job after a look at every cost and every square.
     pub fn open_checked(&mut self) -> Result<(), Refusal>
-        ensures { λ r. ⌜ ((bound : ℕ) → Did Kind·Kind S·Source bound OpenChecked (now (self .entry)) (now (self .exit)) [] [] (opening Kind·Kind r)) ⌝ }
+        ensures tells { λ r. ⌜ Tells (Kind·Kind .costs) (meant Kind·Kind S·Source (now (self .entry) .source)) (opening Kind·Kind r) ⌝ }
+        ensures did { λ r. ⌜ ((bound : ℕ) → Did Kind·Kind S·Source bound OpenChecked (now (self .entry)) (now (self .exit)) [] [] (opening Kind·Kind r)) ⌝ }
     {
         opened(self.act(Call::OpenChecked, 0, &mut []))
     }
