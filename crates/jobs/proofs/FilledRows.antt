@@ -14,7 +14,7 @@ use Rattle.plans.specs.Steps.{Row, via, tabled, ends, refined, between-reads, f
 use Rattle.plans.proofs.Logs.{log2-low, log2-high, log2-most}
 use Rattle.plans.proofs.Tables.{Rising, ends-rising}
 use Rattle.jobs.specs.Filled.{table, Worked, Level}
-use Rattle.jobs.proofs.Places.{held-zero, held-absent}
+use Rattle.jobs.proofs.Places.{kept-zero, kept-absent}
 
 -- ---- from level to level
 
@@ -50,10 +50,10 @@ module _ (K : Costs) (s : Scale K) (above : Row K) (q : ℕ) where
   first-table ps top h = fun-ext each
     where
       each : (k : ℕ) → table (above .from) (above .to) q ps top k ≡ ends K s above q k
-      each zero = held-zero (above .from) (above .to) q ps (0 * top) (zero-mul top)
+      each zero = kept-zero (above .from) (above .to) q ps (0 * top) (zero-mul top)
       each (suc j) =
           let l : 1 * top ≤ suc j * top = mul-le-mul-right top (omega arith) in
-          held-absent (above .from) (above .to) q ps (suc j * top) (omega arith)
+          kept-absent (above .from) (above .to) q ps (suc j * top) (omega arith)
 
   pub first-worked : (w top : ℕ) (ps : List ℕ) (cells : List (K .Cost)) → above .from ≤ above .to → q < top → Worked K s above q w top (table (above .from) (above .to) q ps top) cells
   first-worked w top ps cells h l =

@@ -12,8 +12,8 @@ use Rattle.costs.specs.Costs.{Costs}
 use Rattle.sources.specs.Scales.{Scale}
 use Rattle.plans.specs.Steps.{Row, via, refined, between-reads}
 use Rattle.plans.proofs.Tables.{Rising, by-halves, twice, starts, refined-even, refined-odd, refined-absent, refined-rising, telescoped}
-use Rattle.jobs.specs.Filled.{held, table, Worked, Least, Level}
-use Rattle.jobs.proofs.Places.{held-absent, held-set-same, held-set-other}
+use Rattle.jobs.specs.Filled.{kept-for, table, Worked, Least, Level}
+use Rattle.jobs.proofs.Places.{kept-absent, kept-set-same, kept-set-other}
 
 -- k is even, or one of the first i odd numbers
 abbrev pub Done : ℕ → ℕ → Type 0
@@ -43,7 +43,7 @@ module _ (q d : ℕ) (pos : 0 < d) where
 
 module _ {K : Costs} (above : Row K) (q : ℕ) where
   abbrev place : List ℕ → ℕ → ℕ
-  place = held (above .from) (above .to) q
+  place = kept-for (above .from) (above .to) q
 
   -- the table before the level
   abbrev was : ℕ → List ℕ → ℕ → ℕ
@@ -128,8 +128,8 @@ module _ {K : Costs} {s : Scale K} {above : Row K} {q w d : ℕ} {old : List ℕ
           room = simp length-set (t .room);
           read = omega (arith, t .read, r .lo-is, r .hi-is, l .reads);
           placed = done-more (Placed K s above q w d old (set ps (m - 1) at)) i
-              (ap (place above q (set ps (m - 1) at)) (sym n) ∙ held-set-same (above .from) (above .to) q ps m at m>0 in-row (t .room) ∙ is)
-              (λ k ne h. held-set-other (above .from) (above .to) q ps m (k * d) at m>0 (far k ne) ∙ t .placed k h);
+              (ap (place above q (set ps (m - 1) at)) (sym n) ∙ kept-set-same (above .from) (above .to) q ps m at m>0 in-row (t .room) ∙ is)
+              (λ k ne h. kept-set-other (above .from) (above .to) q ps m (k * d) at m>0 (far k ne) ∙ t .placed k h);
           costed = done-more (Costed K s above q w d old (set cs (w + m - 1) v)) i
               (λ _ _. ap (λ x. getD (set cs (w + m - 1) v) (w + x - 1) (K .nil)) (sym n) ∙ getD-set-same cs (w + m - 1) v (K .nil) (omega arith) ∙ costs)
               (λ k ne h p l. getD-set-other cs (w + m - 1) (w + k * d - 1) v (K .nil) (λ e. far k ne (omega (arith, mul-le-mul-right d p))) ∙ t .costed k h p l);
@@ -138,10 +138,10 @@ module _ {K : Costs} {s : Scale K} {above : Row K} {q w d : ℕ} {old : List ℕ
     pub turning-last : 0 < d → q < m → m ≤ q + 2 * d → d ≤ q → q ≤ 4097 → above .to ≤ 4096 → Level K s above q w d old ps cs reads
     turning-last pos past near some few short =
         let n : (q / d + 1) / 2 ≡ i = turns q d pos i (omega (arith, t .number)) (omega (arith, t .number)) some in
-        let absent : (k : ℕ) → q < k * (2 * d) → (was above q d old) k ≡ above .to = λ k l. held-absent (above .from) (above .to) q old (k * (2 * d)) l in
+        let absent : (k : ℕ) → q < k * (2 * d) → (was above q d old) k ≡ above .to = λ k l. kept-absent (above .from) (above .to) q old (k * (2 * d)) l in
         let done : (k : ℕ) → k * d ≤ q → Done i k = λ k l. rw n at (all-done q d pos k l) in
         let found : table (above .from) (above .to) q ps d ≡ (will K s above q w d old) = fun-ext (λ k. ⊎-elim
-        (λ l. held-absent (above .from) (above .to) q ps (k * d) l ∙ sym (refined-absent K s above q d (was above q d old) rising absent k l))
+        (λ l. kept-absent (above .from) (above .to) q ps (k * d) l ∙ sym (refined-absent K s above q d (was above q d old) rising absent k l))
         (λ l. t .placed k (done k l))
         (cases-lt q (k * d))) in
         record {

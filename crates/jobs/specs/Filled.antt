@@ -26,12 +26,12 @@ pub record Least (K : Costs) (s : Scale K) (above : Row K) (lo hi y at : ℕ) (c
   pub reads : count ≡ hi - lo + 1
 
 -- the place kept for the number m of q, in a row above from place a to place b
-abbrev pub held : ℕ → ℕ → ℕ → List ℕ → ℕ → ℕ
-held a b q places m = cond (eqb m 0) a (cond (leb m q) (getD places (m - 1) 0) b)
+abbrev pub kept-for : ℕ → ℕ → ℕ → List ℕ → ℕ → ℕ
+kept-for a b q places m = cond (eqb m 0) a (cond (leb m q) (getD places (m - 1) 0) b)
 
 -- those of the multiples of d
 abbrev pub table : ℕ → ℕ → ℕ → List ℕ → ℕ → ℕ → ℕ
-table a b q places d k = held a b q places (k * d)
+table a b q places d k = kept-for a b q places (k * d)
 
 -- the multiples of d have their places and, in the cells behind the first w, their costs
 pub record Worked (K : Costs) (s : Scale K) (above : Row K) (q w d : ℕ) (p : ℕ → ℕ) (cells : List (K .Cost)) : Type 0 where

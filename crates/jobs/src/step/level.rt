@@ -5,14 +5,14 @@ ghost use Prim.Native.Nat.{_+_, _-_, _*_, _≤_, _<_};
 ghost use lib.ListN.{length};
 ghost use Rattle.std.specs.Options.{Cases};
 ghost use Rattle.sources.specs.Meant.{meant};
-ghost use Rattle.jobs.specs.Filled.{row-at, held, table, Worked, Level, Kept};
+ghost use Rattle.jobs.specs.Filled.{row-at, kept-for, table, Worked, Level, Kept};
 use crate::step::search::search_least;
 use sources::Source;
 
 // The place kept for the number `m` of `q`, where the row above goes from place `a` to place `b`.
 fn found_at(places: &[u32; 4097], a: u32, b: u32, q: usize, m: usize) -> u32
     requires { ⌜ q ≤ 4097 ⌝ }
-    ensures { λ r. ⌜ r ≡ held a b q (now (places .entry)) m ⌝ }
+    ensures { λ r. ⌜ r ≡ kept-for a b q (now (places .entry)) m ⌝ }
 {
     if m == 0 {
         a

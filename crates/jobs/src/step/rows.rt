@@ -24,7 +24,7 @@ pub fn fill_rows<S: Source>(source: &S, held: &Cuts, end: u32, cells: &mut [S::K
     requires { ⌜ Ready (now held) end (S·Source .last (now source)) (length (now cells)) ⌝ }
     ensures { λ r. ⌜ Cases r ⊥ (λ reads. Rows Kind·Kind (meant Kind·Kind S·Source (now (source .entry))) (now (held .entry)) end (now (cells .entry)) (now (cells .exit)) reads) ⌝ }
 {
-    // the places found, for all rows: what a row before has left there is never read
+    // the places found, for all rows: what the rows before left there is never read
     let mut places = [0; 4097];
     let mut a = 0;
     let mut b = held.row_start(1, end);

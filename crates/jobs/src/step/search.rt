@@ -34,7 +34,8 @@ pub fn search_least<S: Source>(
         let p = lo + k + 1;
         let class = source.cost(p, y)?;
         let value = above[(p - base) as usize].plus(class);
-        if !cost.at_most(value) {
+        let stays = cost.at_most(value);
+        if !stays {
             place = p;
             cost = value;
         }

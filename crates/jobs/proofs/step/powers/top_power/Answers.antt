@@ -14,8 +14,8 @@ loop-power-again c =
     let i = c .loop-power .power-index in
     let power = power-at i (c .loop-power-test .taken) in
     elim (c .if-power-q .came) [
-      | then-power-q w ↦ w .top-is ∙ top-taken (c .args .q) i _ power (w .if-power-q .taken)
-      | else-power-q w ↦ w .top-is ∙ top-left (c .args .q) i _ _ power (w .if-power-q .left) (c .loop-power .inv)
+      | then-power-q w ↦ w .top-is ∙ top-taken (c .args .q) i _ power (omega arith)
+      | else-power-q w ↦ w .top-is ∙ top-left (c .args .q) i _ _ power (omega arith) (c .loop-power .inv)
     ]
 
 pub returns : need.returns

@@ -7,7 +7,7 @@ use Rattle.plans.proofs.Earliest.{stays, moves}
 use Rattle.jobs.specs.Filled.{row-of}
 use Rattle.jobs.proofs.Searches.{way-means}
 use Rattle.jobs.proofs.step.search.search_least.Needs as need
-use Rattle.jobs.proofs.step.search.search_least.Needs.{then-not-at-most, else-not-at-most}
+use Rattle.jobs.proofs.step.search.search_least.Needs.{then-not-stays, else-not-stays}
 
 pub loop-k-holds : need.loop-k-holds
 loop-k-holds g c =
@@ -21,9 +21,9 @@ loop-k-again g c =
     let p = c .args .lo + c .loop-k .k + 1 in
     let way = via (k .costs) (meant k (g .S·Source) (c .args .source .now)) (row-of k (c .args .base) (c .args .hi) above) (c .args .y) in
     let here : k .means (c .plus-value .result) ≡ way p = way-means (k .means) (k .sum) (k .costs .add) (g .Kind·Kind·met .sums) above (p - c .args .base) _ _ _ _ _ (omega arith) (c .index-above-p .is) (c .in-Continue-class .ensures tt .2) (c .plus-value .ensures) in
-    elim (c .if-not-at-most .came) [
-      | then-not-at-most w ↦ rw (w .place-is, w .cost-is) (moves (k .costs .le) way (c .args .lo) (c .loop-k .k) (c .loop-k .place) p _ _ _ (c .loop-k .inv) refl here (c .at-most .ensures) (w .if-not-at-most .taken))
-      | else-not-at-most w ↦ rw (w .place-is, w .cost-is) (stays (k .costs .le) way (c .args .lo) (c .loop-k .k) (c .loop-k .place) p _ _ _ (c .loop-k .inv) refl here (c .at-most .ensures) (w .if-not-at-most .left))
+    elim (c .if-not-stays .came) [
+      | then-not-stays w ↦ rw (w .place-is, w .cost-is) (moves (k .costs .le) way (c .args .lo) (c .loop-k .k) (c .loop-k .place) p _ _ _ (c .loop-k .inv) refl here (c .at-most-stays .ensures) (w .if-not-stays .taken))
+      | else-not-stays w ↦ rw (w .place-is, w .cost-is) (stays (k .costs .le) way (c .args .lo) (c .loop-k .k) (c .loop-k .place) p _ _ _ (c .loop-k .inv) refl here (c .at-most-stays .ensures) (w .if-not-stays .left))
     ]
 
 pub returns : need.returns
