@@ -54,7 +54,7 @@ calls = OpenVouched ∷ Add ∷ Add ∷ Add ∷ Drop ∷ Reach 3 ∷ []
 abbrev pub after : ℕ → Run numbers
 after n = runs numbers (house counts) (house-bound counts) shut (replicate 9 (pos 5)) (take n calls)
 
--- what a checked opening over the table with these entries answers
+-- what a checked opening over the table with these entries answers; the bound has no part in it
 abbrev pub checked : ℕ → List ℕ → Answer numbers
 checked last entries = does numbers (table last (map pos entries)) 0 shut OpenChecked [] .answer
 

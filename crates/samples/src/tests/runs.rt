@@ -59,3 +59,15 @@ fn a_life_in_one_run(rt: LibcRuntime) -> Result<(), Fail> {
     check_eq(moment(&records[3]), Some((3, 16)))?;
     check_eq(plan(&job), Some((3, 0, 16, [None; 3])))
 }
+
+#[test]
+fn the_length_goes_before_the_bound(rt: LibcRuntime) -> Result<(), Fail> {
+    let heap = rt.alloc();
+    let entries = vec![in heap; 0; 8_398_851]?;
+    let mut job = Job::new(table(heap, 4097, &entries)?);
+    let calls = [Call::OpenVouched, Call::Look(1)];
+    let records = job.run_checked(heap, &calls, &mut [0; 1])?;
+    check(records.len() == 2)?;
+    check_eq(number(&records[0]), 1)?;
+    check_eq((number(&records[1]), moment(&records[1])), (0, None))
+}
