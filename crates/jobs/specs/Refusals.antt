@@ -16,3 +16,15 @@ refusal-number Full = 7
 refusal-number NoCut = 8
 refusal-number Beyond = 9
 refusal-number TooFewCells = 10
+
+abbrev pub refusal-pair : Refusal → Option (ℕ × ℕ)
+refusal-pair TooLong = None
+refusal-pair (TooLarge at) = Some at
+refusal-pair (Broken at) = Some at
+refusal-pair BoundTooLarge = None
+refusal-pair AlreadyOpen = None
+refusal-pair NotOpen = None
+refusal-pair Full = None
+refusal-pair NoCut = None
+refusal-pair Beyond = None
+refusal-pair TooFewCells = None

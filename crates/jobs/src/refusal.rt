@@ -1,5 +1,5 @@
 ghost use mathlib.Core.Path.{_≡_};
-ghost use Rattle.jobs.specs.Refusals.{refusal-number};
+ghost use Rattle.jobs.specs.Refusals.{refusal-number, refusal-pair};
 
 // Why a call is refused. A refused call changes neither the job nor the cells that it was lent.
 #[derive(Clone, Copy, PartialEq, Eq, Debug)]
@@ -39,6 +39,17 @@ impl Refusal {
             Refusal::NoCut => 8,
             Refusal::Beyond => 9,
             Refusal::TooFewCells => 10,
+        }
+    }
+
+    // The class or the square at which the opening failed.
+    pub fn pair(self) -> Option<(u32, u32)>
+        ensures { λ r. ⌜ r ≡ refusal-pair self ⌝ }
+    {
+        match self {
+            Refusal::TooLarge(class) => Some(class),
+            Refusal::Broken(square) => Some(square),
+            _ => None,
         }
     }
 }
