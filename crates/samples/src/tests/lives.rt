@@ -52,7 +52,7 @@ fn drops_and_reaches_need_cells(rt: LibcRuntime) -> Result<(), Fail> {
 }
 
 #[test]
-fn no_cuts_need_no_cells(rt: LibcRuntime) -> Result<(), Fail> {
+fn no_cuts_fill_no_cells(rt: LibcRuntime) -> Result<(), Fail> {
     let mut job = opened(rt.alloc())?;
     let mut cells = [5; 5];
     check_eq(told(job.add_cut(&mut cells)), Ok(10))?;
