@@ -1,8 +1,5 @@
 // Sheets at the edges of the format, and the lines for them.
 use crate::decoding::decode;
-use crate::lines::Report;
-use crate::lines::fault_line;
-use crate::lines::line;
 use crate::sheet::Event;
 use crate::sheet::EventDebug;
 use crate::sheet::EventPartialEq;
@@ -73,33 +70,4 @@ fn refuses_the_first_fault(rt: LibcRuntime) -> Result<(), Fail> {
     check_fault(heap, b"CT\x00\x00\x00\x00OPCT\x00\x00\x00\x00AD", 8)?;
     check_fault(heap, b"OPCT\x00\x00\x00\x00??", 2)?;
     check_fault(heap, b"OP??CT\x00\x00\x00\x00", 2)
-}
-
-#[test]
-fn prints_lines(rt: LibcRuntime) -> Result<(), Fail> {
-    let heap = rt.alloc();
-    let cuts = vec![in heap]?;
-    let opened = Report::Done {
-        event: Event::Open,
-        end: 4,
-        total: 30,
-        reads: None,
-        cuts,
-    };
-    check_eq(line(heap, &opened)?.as_str(), "OP 0 4 0 30 -\n")?;
-    let cuts = vec![in heap; 0, 1, 2]?;
-    let added = Report::Done {
-        event: Event::Add,
-        end: 4,
-        total: 19,
-        reads: Some(18),
-        cuts,
-    };
-    check_eq(line(heap, &added)?.as_str(), "AD 0 4 3 19 18 0 1 2\n")?;
-    let refused = Report::Refused {
-        event: Event::Open,
-        number: 5,
-    };
-    check_eq(line(heap, &refused)?.as_str(), "OP 5\n")?;
-    check_eq(fault_line(heap, 13, 7)?.as_str(), "SHEET 13 7\n")
 }
