@@ -29,18 +29,18 @@ lines-none [] = refl
 lines-none (e ∷ es) = refl
 
 -- one line more is written
-pub lines-more : {es es′ : List Event} {rs rs′ : List (Record ℤ)} {e : Event} {r : Record ℤ} {text said new whole : List ℕ}
+pub lines-more : {es es′ : List Event} {rs rs′ : List (Record ℤ)} {e : Event} {r : Record ℤ} {said whole : List ℕ} (text new : List ℕ)
     → es ≡ e ∷ es′ → rs ≡ r ∷ rs′ → said ≡ told e (recorded-of plain r) → new ≡ text ++ said
     → text ++ lines es (map (recorded-of plain) rs) ≡ whole → new ++ lines es′ (map (recorded-of plain) rs′) ≡ whole
-lines-more {es} {es′} {rs} {rs′} {e} {r} {text} {said} {new} {whole} first second line more old =
+lines-more {es} {es′} {rs} {rs′} {e} {r} {said} {whole} text new first second line more old =
     let rest = lines es′ (map (recorded-of plain) rs′) in
     ap (λ t. t ++ rest) more ∙ append-assoc text said rest ∙ ap (λ t. text ++ (t ++ rest)) line
     ∙ (λ i. text ++ lines (sym first i) (map (recorded-of plain) (sym second i))) ∙ old
 
 -- all lines are written
-pub lines-all : {es : List Event} {rs : List (Record ℤ)} {text whole : List ℕ} → (es ≡ []) ⊎ (rs ≡ []) → text ++ lines es (map (recorded-of plain) rs) ≡ whole → text ≡ whole
-lines-all {es} {rs} {text} {whole} (inl e) old = sym (append-nil text) ∙ ap (λ l. text ++ lines l (map (recorded-of plain) rs)) (sym e) ∙ old
-lines-all {es} {rs} {text} {whole} (inr e) old =
+pub lines-all : {es : List Event} {rs : List (Record ℤ)} {whole : List ℕ} (text : List ℕ) → (es ≡ []) ⊎ (rs ≡ []) → text ++ lines es (map (recorded-of plain) rs) ≡ whole → text ≡ whole
+lines-all {es} {rs} {whole} text (inl e) old = sym (append-nil text) ∙ ap (λ l. text ++ lines l (map (recorded-of plain) rs)) (sym e) ∙ old
+lines-all {es} {rs} {whole} text (inr e) old =
     sym (append-nil text) ∙ ap (λ l. text ++ l) (sym (lines-none es)) ∙ ap (λ l. text ++ lines es (map (recorded-of plain) l)) (sym e) ∙ old
 
 -- ---- the run
@@ -54,8 +54,8 @@ module _ (counts : HouseCounts) (events : List Event) (calls : List Call) (job a
       → text ≡ lines events (map (recorded-of plain) rs) → Performed (held counts) events text
   performed text by-events blank is-shut over ran lines-are =
       let same : map (recorded-of plain) rs ≡ records (held counts) events =
-          ap (λ x. x .records) (ran .run)
-          ∙ (λ i. runs numbers (house (held (over i))) (house-bound (held (over i))) (is-shut i) ((map-id cells ∙ blank) i) (by-events i) .records) in
+      ap (λ x. x .records) (ran .run)
+      ∙ (λ i. runs numbers (house (held (over i))) (house-bound (held (over i))) (is-shut i) ((map-id cells ∙ blank) i) (by-events i) .records) in
       let born = subst (Life numbers (house (held (job .source))) (house-bound (held (job .source)))) (sym is-shut) made in
       let lived = subst (λ h. Lived numbers (house (held h)) (house-bound (held h)) (map (recorded-of plain) rs)) over (ran .life born) in
       record {

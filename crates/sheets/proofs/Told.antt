@@ -5,6 +5,7 @@ use mathlib.Core.List.{List, []}
 use mathlib.Core.Logic.{inl, inr}
 use Prim.Native.Nat.{ℕ, _<_}
 use native.Mathlib.Omega.{arith}
+use lib.ListN.{getD}
 use Rattle.std.proofs.shelf.Tests.{cases-lt}
 use Rattle.std.specs.declared.result.Result.the-variants.{Ok, Err}
 use Rattle.sources.specs.declared.house_fault.HouseFault.{HouseFault}
@@ -41,9 +42,6 @@ module _ (counts : List ℕ) (events : List Event) (text : List ℕ) where
   told-count : (i : ℕ) → Long-enough counts → First-bad counts i → text ≡ faulted 12 i → Told counts events text
   told-count i l f e = record { bad-length = λ n. absurd (n l); bad-count = λ j _ g. e ∙ ap (faulted 12) (one-first i j f g); good = λ g. absurd (not-good i f (g .1)) }
 
-  pub told-good : Counts counts → Performed counts events text → Told counts events text
-  told-good g p = record { bad-length = λ n. absurd (n (g .0)); bad-count = λ i l f. absurd (not-good i f (g .1)); good = λ _. p }
-
   -- counts that were not loaded
   pub told-fault : (f : HouseFault) (old new : List ℕ) → Loads counts old new (Err f) → (f ≡ Memory → ⊥) × (text ≡ faulted (fault-number f) (fault-index f)) → Told counts events text
   told-fault Length old new l (n, e) = told-length (l .0) e
@@ -52,6 +50,6 @@ module _ (counts : List ℕ) (events : List Event) (text : List ℕ) where
 
 -- bytes that are no sheet
 pub prints-fault : (m : Meaning) (f : SheetFault) (text : List ℕ) → Answers (Err f) m → ((place : ℕ) × (f ≡ sheet-fault.Malformed place) × (text ≡ faulted 13 place)) → Prints m text
-prints-fault (Err p) (sheet-fault.Malformed q) text a (place, e, t) = let same : place ≡ p = cc in t ∙ ap (faulted 13) same
+prints-fault (Err p) (sheet-fault.Malformed q) text a (place, e, t) = let same : q ≡ p = ap (λ (x : ℕ × List ℕ). getD (x .1) 0 0) a in let here : place ≡ p = cc in t ∙ ap (faulted 13) here
 prints-fault (Ok s) (sheet-fault.Malformed q) text a e = absurd (omega (arith, ap (λ (x : ℕ × List ℕ). x .0) a))
 prints-fault m sheet-fault.Memory text a (place, e, t) = absurd (let z : _≡_ {A = ℕ} 0 1 = cc in omega arith)

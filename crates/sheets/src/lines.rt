@@ -68,9 +68,8 @@ fn moment_line(
     ensures { λ r. ⌜ made r (λ s. string-bytes s ≡ done event reads (moment-of plain (Some (now (moment .entry))))) ⌝ }
 {
     let mark = mark_of(event);
-    let end = moment.end;
-    let total = moment.total;
-    let places = moment.cuts.places();
+    let Moment { end, cuts, total } = moment;
+    let places = cuts.places();
     let used = places.len();
     let reads = reads_text(heap, reads)?;
     let cuts = cuts_text(heap, places)?;

@@ -23,11 +23,7 @@ use std::alloc::Global;
 const CELLS: usize = 4_351;
 
 // The lines of the events.
-pub fn perform(
-    heap: Global,
-    counts: HouseCounts,
-    events: &[Event],
-) -> Result<String, AllocError>
+pub fn perform(heap: Global, counts: HouseCounts, events: &[Event]) -> Result<String, AllocError>
     ensures { λ r. ⌜ made r (λ s. Performed (vec-items (counts .counts)) (now (events .entry)) (string-bytes s)) ⌝ }
 {
     let calls = calls_of(heap, events)?;
@@ -61,11 +57,7 @@ fn performing_call(event: Event) -> Call
 }
 
 // The line of each event, by its record.
-fn lines_text(
-    heap: Global,
-    events: &[Event],
-    records: &[Record<i64>],
-) -> Result<String, AllocError>
+fn lines_text(heap: Global, events: &[Event], records: &[Record<i64>]) -> Result<String, AllocError>
     ensures { λ r. ⌜ made r (λ s. string-bytes s ≡ lines (now (events .entry)) (map (recorded-of plain) (now (records .entry)))) ⌝ }
 {
     let mut text = String::new(heap);

@@ -14,8 +14,10 @@ pub returns-in-Err : need.returns-in-Err
 returns-in-Err c =
     let f = c .in-Err .fault in
     let sheet = c .args .sheet .now in
+    let old = vec-items (c .in-Continue-counts .counts .counts) in
+    let new = vec-items (c .load .last .self .counts) in
     made-weaker (c .house-fault-line .result)
     (λ s. (f ≡ Memory → ⊥) × (string-bytes s ≡ faulted (fault-number f) (fault-index f)))
     (λ s. Told (vec-items (sheet .counts)) (vec-items (sheet .events)) (string-bytes s))
-    (λ s e. told-fault (vec-items (sheet .counts)) (vec-items (sheet .events)) (string-bytes s) f _ _ (subst (λ F. Loads F _ _ (Err f)) (c .deref .ensures .value) (c .in-Err .ensures tt)) e)
+    (λ s e. told-fault (vec-items (sheet .counts)) (vec-items (sheet .events)) (string-bytes s) f old new (subst (λ F. Loads F old new (Err f)) (c .deref .ensures .value) (c .in-Err .ensures tt)) e)
     (c .house-fault-line .ensures)
