@@ -7,14 +7,11 @@ use lib.IntN.{ℤ}
 use lib.ListN.{length, getD, take}
 use Rattle.std.proofs.shelf.Lists.{map-more, joined-more}
 use Rattle.std.specs.Joined.{joined}
-use Rattle.std.specs.Of.Vec.{vec-items, vec-len}
 use Rattle.std.specs.Written.{decimal, signed}
-use Rattle.std.specs.declared.alloc.Global.{Global}
 use Rattle.std.specs.declared.option.Option.{Option}
-use Rattle.std.specs.declared.vec.Vec.{Vec}
-use Rattle.sheets.specs.declared.lines.Report.the-variants.{Done}
+use Rattle.jobs.specs.Calls.{opened}
 use Rattle.sheets.specs.declared.sheet.Event.{Event}
-use Rattle.sheets.specs.Lines.{spaced, line, mark, counted, reported}
+use Rattle.sheets.specs.Lines.{spaced, line, mark, reads-field, done}
 
 -- one number more
 pub spaced-more : (ns : List ℕ) (i : ℕ) → i < length ns → spaced (map decimal (take (i + 1) ns)) ≡ spaced (map decimal (take i ns)) ++ (0x20 ∷ decimal (getD ns i 0))
@@ -35,10 +32,10 @@ line-done : (m e u t r : List ℕ) (fs : List (List ℕ))
 line-done m e u t r fs = simp append-assoc
 
 -- the line of an event that was done, as it is put together
-pub done-line : (event : Event) (end : ℕ) (total : ℤ) (reads : Option ℕ) (cuts : Vec ℕ Global) (u : ℕ) (m r cs : List ℕ)
-    → m ≡ mark event → u ≡ vec-len cuts → r ≡ counted reads → cs ≡ spaced (map decimal (vec-items cuts))
-    → m ++ (codes " 0 " ++ (decimal end ++ (codes " " ++ (decimal u ++ (codes " " ++ (signed total ++ (codes " " ++ (r ++ (cs ++ codes "\n")))))))))
-    ≡ reported (Done event end total reads cuts)
-done-line event end total reads cuts u m r cs em eu er ec =
-    (λ i. em i ++ (codes " 0 " ++ (decimal end ++ (codes " " ++ (decimal ((eu ∙ cuts .ok .0) i) ++ (codes " " ++ (signed total ++ (codes " " ++ (er i ++ (ec i ++ codes "\n"))))))))))
-    ∙ line-done (mark event) (decimal end) (decimal (length (vec-items cuts))) (signed total) (counted reads) (map decimal (vec-items cuts))
+pub done-line : (event : Event) (end : ℕ) (total : ℤ) (reads : Option ℕ) (places m r cs ps : List ℕ)
+    → m ≡ mark event → r ≡ reads-field reads → cs ≡ spaced (map decimal ps) → ps ≡ places
+    → m ++ (codes " 0 " ++ (decimal end ++ (codes " " ++ (decimal (length ps) ++ (codes " " ++ (signed total ++ (codes " " ++ (r ++ (cs ++ codes "\n")))))))))
+    ≡ done event reads (opened (record { end = end; cuts = places; total = total }))
+done-line event end total reads places m r cs ps em er ec ep =
+    (λ i. em i ++ (codes " 0 " ++ (decimal end ++ (codes " " ++ (decimal (length (ep i)) ++ (codes " " ++ (signed total ++ (codes " " ++ (er i ++ ((ec ∙ ap (λ l. spaced (map decimal l)) ep) i ++ codes "\n"))))))))))
+    ∙ line-done (mark event) (decimal end) (decimal (length places)) (signed total) (reads-field reads) (map decimal places)

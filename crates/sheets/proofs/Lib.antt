@@ -4,3 +4,5 @@ pub mod Readings
 pub mod Sofar
 pub mod Limits
 pub mod Fields
+pub mod Told
+pub mod Performances

@@ -4,12 +4,14 @@ use Prim.Native.Nat.{ℕ}
 use lib.Chars.{codes}
 use lib.ListN.{length}
 use Rattle.std.specs.Joined.{joined}
-use Rattle.std.specs.Of.Vec.{vec-items}
 use Rattle.std.specs.Written.{decimal, signed}
 use Rattle.std.specs.declared.option.Option.{Option}
 use Rattle.std.specs.declared.option.Option.the-variants.{Some, None}
-use Rattle.sheets.specs.declared.lines.Report.{Report}
-use Rattle.sheets.specs.declared.lines.Report.the-variants.{Done, Refused}
+use Rattle.costs.specs.Numbers.{numbers}
+use Rattle.jobs.specs.Calls.{State, shut, opened, Answer, refused, accepted, counted, nothing, shown}
+use Rattle.jobs.specs.declared.refusal.Refusal.{Refusal}
+use Rattle.jobs.specs.Refusals.{refusal-number}
+use Rattle.jobs.specs.Runs.{Recorded}
 use Rattle.sheets.specs.declared.sheet.Event.{Event}
 use Rattle.sheets.specs.declared.sheet.Event.the-variants.{Open, Add, Drop, Reach}
 
@@ -28,16 +30,32 @@ mark Add = codes "AD"
 mark Drop = codes "DR"
 mark (Reach end) = codes "RE"
 
--- the number of reads, or a dash where there is none
-abbrev pub counted : Option ℕ → List ℕ
-counted (Some n) = decimal n
-counted None = codes "-"
+-- the number of reads, or a dash where none is given
+abbrev pub reads-field : Option ℕ → List ℕ
+reads-field (Some n) = decimal n
+reads-field None = codes "-"
 
--- what is printed of an event
-abbrev pub reported : Report → List ℕ
-reported (Done event end total reads cuts) =
-    line (mark event) (codes "0" ∷ decimal end ∷ decimal (length (vec-items cuts)) ∷ signed total ∷ counted reads ∷ map decimal (vec-items cuts))
-reported (Refused event number) = line (mark event) (decimal number ∷ [])
+-- what is printed of an event that was refused
+abbrev pub refusal-text : Event → Refusal → List ℕ
+refusal-text event why = line (mark event) (decimal (refusal-number why) ∷ [])
+
+-- what is printed of an event that was done, by the job right after it; nothing of a shut job
+abbrev pub done : Event → Option ℕ → State numbers → List ℕ
+done event reads shut = []
+done event reads (opened o) =
+    line (mark event) (codes "0" ∷ decimal (o .end) ∷ decimal (length (o .cuts)) ∷ signed (o .total) ∷ reads-field reads ∷ map decimal (o .cuts))
+
+-- what is printed of an event by the answer to its call; nothing of a look, which no event asks for
+abbrev pub answered : Event → Answer numbers → State numbers → List ℕ
+answered event (refused why) st = refusal-text event why
+answered event accepted st = done event None st
+answered event (counted reads) st = done event (Some reads) st
+answered event nothing st = []
+answered event (shown v) st = []
+
+-- what is printed of an event by the record of its call
+abbrev pub told : Event → Recorded numbers → List ℕ
+told event r = answered event (r .answer) (r .state)
 
 -- what is printed of a sheet that is turned down: a fault's number, and its place or index
 abbrev pub faulted : ℕ → ℕ → List ℕ

@@ -1,13 +1,15 @@
-// The class sheet: its records, and the lines that are printed for it.
+// The class sheet: its records, its events performed over its counts, and the text that is printed for it.
+mod answering;
 mod decoding;
 mod lines;
+mod performing;
 mod record;
 mod sheet;
 #[cfg(test)]
 mod tests;
 
+pub use answering::answer;
 pub use decoding::decode;
-pub use lines::Report;
 pub use lines::fault_line;
 pub use lines::line;
 pub use sheet::Event;

@@ -1,8 +1,6 @@
-// Sheets at the edges of the format, and the lines for them.
+// Sheets at the edges of the format, and the text for them.
+use crate::answering::answer;
 use crate::decoding::decode;
-use crate::lines::Report;
-use crate::lines::fault_line;
-use crate::lines::line;
 use crate::sheet::Event;
 use crate::sheet::EventDebug;
 use crate::sheet::EventPartialEq;
@@ -75,31 +73,40 @@ fn refuses_the_first_fault(rt: LibcRuntime) -> Result<(), Fail> {
     check_fault(heap, b"OP??CT\x00\x00\x00\x00", 2)
 }
 
+fn check_answer(heap: Global, bytes: &[u8], text: &str) -> Result<(), Fail> {
+    check_eq(answer(heap, bytes)?.as_str(), text)
+}
+
 #[test]
-fn prints_lines(rt: LibcRuntime) -> Result<(), Fail> {
+fn turns_bad_sheets_down(rt: LibcRuntime) -> Result<(), Fail> {
     let heap = rt.alloc();
-    let cuts = vec![in heap]?;
-    let opened = Report::Done {
-        event: Event::Open,
-        end: 4,
-        total: 30,
-        reads: None,
-        cuts,
-    };
-    check_eq(line(heap, &opened)?.as_str(), "OP 0 4 0 30 -\n")?;
-    let cuts = vec![in heap; 0, 1, 2]?;
-    let added = Report::Done {
-        event: Event::Add,
-        end: 4,
-        total: 19,
-        reads: Some(18),
-        cuts,
-    };
-    check_eq(line(heap, &added)?.as_str(), "AD 0 4 3 19 18 0 1 2\n")?;
-    let refused = Report::Refused {
-        event: Event::Open,
-        number: 5,
-    };
-    check_eq(line(heap, &refused)?.as_str(), "OP 5\n")?;
-    check_eq(fault_line(heap, 13, 7)?.as_str(), "SHEET 13 7\n")
+    check_answer(heap, b"OPAE", "SHEET 13 2\n")?;
+    check_answer(heap, b"OP", "SHEET 11 0\n")?;
+    check_answer(
+        heap,
+        b"CT\x00\x00\x00\x01CT\x00\x00\x00\x02CT\x00\x00\x00\x01OP",
+        "SHEET 12 2\n",
+    )?;
+    // a record at fault goes before a bad count
+    check_answer(heap, b"CT\xFF\x00\x00\x00??", "SHEET 13 6\n")
+}
+
+#[test]
+fn refuses_events(rt: LibcRuntime) -> Result<(), Fail> {
+    let heap = rt.alloc();
+    check_answer(heap, b"CT\x00\x00\x00\x07", "")?;
+    check_answer(
+        heap,
+        b"CT\x00\x00\x00\x07ADOPOPDRRE\x00\x01",
+        "AD 6\nOP 0 0 0 0 -\nOP 5\nDR 8\nRE 9\n",
+    )
+}
+
+#[test]
+fn performs_events(rt: LibcRuntime) -> Result<(), Fail> {
+    check_answer(
+        rt.alloc(),
+        b"CT\x00\x00\x00\x00CT\x00\x00\x00\x03CT\x00\x00\x00\x04CT\x00\x00\x00\x04CT\x00\x00\x00\x06OPADADADDRRE\x00\x03",
+        "OP 0 4 0 30 -\nAD 0 4 1 21 10 1\nAD 0 4 2 19 15 1 2\nAD 0 4 3 19 18 0 1 2\nDR 0 4 2 19 26 1 2\nRE 0 3 2 9 21 1 2\n",
+    )
 }
