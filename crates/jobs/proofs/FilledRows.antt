@@ -10,9 +10,9 @@ use Rattle.std.proofs.shelf.Counted.{length-map-counting, getD-map-counting}
 use Rattle.std.proofs.shelf.Lists.{ext-getD, getD-take, getD-drop, length-take, length-drop}
 use Rattle.costs.specs.Costs.{Costs}
 use Rattle.sources.specs.Scales.{Scale}
-use Rattle.plans.specs.Steps.{Row, via, tabled, ends, refined, between-reads, found, searched, log2}
+use Rattle.plans.specs.Steps.{Rising, Row, via, tabled, ends, refined, between-reads, found, searched, log2}
 use Rattle.plans.proofs.Logs.{log2-low, log2-high, log2-most}
-use Rattle.plans.proofs.Tables.{Rising, ends-rising}
+use Rattle.plans.proofs.Tables.{ends-rising}
 use Rattle.jobs.specs.Filled.{table, Worked, Level}
 use Rattle.jobs.proofs.Places.{kept-zero, kept-absent}
 

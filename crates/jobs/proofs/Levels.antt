@@ -10,8 +10,8 @@ use Rattle.std.proofs.shelf.Tests.{cases-lt, cases-eq}
 use Rattle.std.proofs.shelf.Lists.{getD-set-same, getD-set-other, length-set}
 use Rattle.costs.specs.Costs.{Costs}
 use Rattle.sources.specs.Scales.{Scale}
-use Rattle.plans.specs.Steps.{Row, via, refined, between-reads}
-use Rattle.plans.proofs.Tables.{Rising, by-halves, twice, starts, refined-even, refined-odd, refined-absent, refined-rising, telescoped}
+use Rattle.plans.specs.Steps.{Rising, Row, via, refined, between-reads}
+use Rattle.plans.proofs.Tables.{by-halves, twice, starts, refined-even, refined-odd, refined-absent, refined-rising, telescoped}
 use Rattle.jobs.specs.Filled.{kept-for, table, Worked, Least, Level}
 use Rattle.jobs.proofs.Places.{kept-absent, kept-set-same, kept-set-other}
 

@@ -8,8 +8,7 @@ use lib.ListN.{getD, take, drop}
 use Rattle.costs.specs.declared.kind.Kind as kind
 use Rattle.costs.specs.Costs.{Costs}
 use Rattle.sources.specs.Scales.{Scale}
-use Rattle.plans.specs.Steps.{Row, via, earliest, refined, between-reads, next, next-reads}
-use Rattle.plans.proofs.Tables.{Rising}
+use Rattle.plans.specs.Steps.{Rising, Row, via, earliest, refined, between-reads, next, next-reads}
 
 -- the row that the values vs stand for, from place a to place b
 abbrev pub row-of : {V : Type 0} (k : kind.Ghosts V) → ℕ → ℕ → List V → Row (k .costs)

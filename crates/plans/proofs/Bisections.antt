@@ -8,10 +8,10 @@ use lib.Pow.{pow-pos}
 use Rattle.std.proofs.shelf.Tests.{cases-lt}
 use Rattle.costs.specs.Costs.{Costs, Laws}
 use Rattle.sources.specs.Scales.{Scale}
-use Rattle.plans.specs.Steps.{Row, via, refined, found, searched, ends, log2, next-reads}
+use Rattle.plans.specs.Steps.{Rising, Row, via, refined, found, searched, ends, log2, next-reads}
 use Rattle.plans.proofs.Earliest.{Earliest, narrowed, earliest-finds}
 use Rattle.plans.proofs.Logs.{log2-high}
-use Rattle.plans.proofs.Tables.{Rising, ends-rising, by-halves, twice, refined-even, refined-odd, refined-past, refined-rising, refined-absent, telescoped}
+use Rattle.plans.proofs.Tables.{ends-rising, by-halves, twice, refined-even, refined-odd, refined-past, refined-rising, refined-absent, telescoped}
 
 -- ---- the places found
 

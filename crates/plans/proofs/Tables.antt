@@ -9,7 +9,7 @@ use lib.Dec.{eqb}
 use Rattle.std.proofs.shelf.Tests.{cond-true, cond-false, eq-eqb, ne-eqb, le-leb, lt-leb, cases-lt}
 use Rattle.costs.specs.Costs.{Costs}
 use Rattle.sources.specs.Scales.{Scale}
-use Rattle.plans.specs.Steps.{Row, via, earliest, refined, ends, between-reads}
+use Rattle.plans.specs.Steps.{Rising, Row, via, earliest, refined, ends, between-reads}
 use Rattle.plans.proofs.Earliest.{earliest-within}
 
 -- a number is even or odd
@@ -21,12 +21,6 @@ pub twice : (i d : ℕ) → 2 * i * d ≡ i * (2 * d)
 twice i d = ap (λ x. x * d) (mul-comm 2 i) ∙ mul-assoc i 2 d
 
 -- ---- tables that rise
-
--- a table from a on whose places never fall and never pass b
-pub record Rising (a b : ℕ) (p : ℕ → ℕ) : Type 0 where
-  pub from : p 0 ≡ a
-  pub rises : (k : ℕ) → p k ≤ p (suc k)
-  pub within : (k : ℕ) → p k ≤ b
 
 module _ {a b : ℕ} {p : ℕ → ℕ} (r : Rising a b p) where
   -- it never falls below its first place

@@ -1,8 +1,9 @@
 -- One step: from the held cuts to one cut more, with the rows that it fills and the costs that it reads.
 -- It is defined for every list of held cuts that is a plan, and for all costs.
+use mathlib.Core.Path.{_≡_}
 use mathlib.Core.Bool.{Bool, cond}
 use mathlib.Core.List.{List, [], _∷_, _++_, map}
-use Prim.Native.Nat.{ℕ, zero, suc, _+_, _-_, _*_, _/_, _%_, _^_}
+use Prim.Native.Nat.{ℕ, zero, suc, _+_, _-_, _*_, _/_, _%_, _^_, _≤_}
 use lib.Dec.{eqb, leb}
 use lib.ListN.{length, getD, drop}
 use Rattle.std.specs.Iters.{counting}
@@ -59,6 +60,12 @@ module _ (K : Costs) (s : Scale K) (above : Row K) (q : ℕ) where
   abbrev pub searched : ℕ → (ℕ → ℕ) → ℕ
   searched zero p = 0
   searched (suc n) p = between-reads p ((q / 2 ^ n + 1) / 2) + searched n (refined (2 ^ n) p)
+
+-- a table from a on whose places never fall and never pass b
+pub record Rising (a b : ℕ) (p : ℕ → ℕ) : Type 0 where
+  pub from : p 0 ≡ a
+  pub rises : (k : ℕ) → p k ≤ p (suc k)
+  pub within : (k : ℕ) → p k ≤ b
 
 -- the largest j up to f with 2 ^ j at most q, where q is at least 1; for the places of a row, at most 4,097 of them, an f of 12 is enough
 abbrev pub log2 : ℕ → ℕ → ℕ

@@ -17,7 +17,7 @@ use Rattle.jobs.specs.declared.record.Record.{Record}
 use Rattle.jobs.specs.Calls.{shut}
 use Rattle.jobs.specs.Jobs.{state-of, recorded-of, Ran}
 use Rattle.jobs.specs.Lives.{Life, made, Law}
-use Rattle.jobs.specs.Runs.{Recorded, runs, Lived}
+use Rattle.jobs.specs.Runs.{runs, Lived}
 use Rattle.sheets.specs.declared.sheet.Event.{Event}
 use Rattle.sheets.specs.Lines.{told}
 use Rattle.sheets.specs.Printed.{call-of, work-list, records, lines, Performed}

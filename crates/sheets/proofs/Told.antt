@@ -1,9 +1,9 @@
 -- The text for a file, case by case: each case rules the others out.
 use mathlib.Core.Path.{_≡_, refl, _∙_, ap}
 use mathlib.Core.Bool.{Bool, true, false}
-use mathlib.Core.List.{List, []}
+use mathlib.Core.List.{List}
 use mathlib.Core.Logic.{inl, inr}
-use Prim.Native.Nat.{ℕ, _<_}
+use Prim.Native.Nat.{ℕ}
 use native.Mathlib.Omega.{arith}
 use lib.ListN.{getD}
 use Rattle.std.proofs.shelf.Tests.{cases-lt}
@@ -11,13 +11,13 @@ use Rattle.std.specs.declared.result.Result.the-variants.{Ok, Err}
 use Rattle.sources.specs.declared.house_fault.HouseFault.{HouseFault}
 use Rattle.sources.specs.declared.house_fault.HouseFault.the-variants.{Length, BadCount, Memory}
 use Rattle.sources.specs.HouseLoads.{Loads, fault-number, fault-index}
-use Rattle.sources.specs.Houses.{Long-enough, Counts, Good, First-bad, bad}
+use Rattle.sources.specs.Houses.{Long-enough, Good, First-bad, bad}
 use Rattle.sheets.specs.declared.sheet.Event.{Event}
 use Rattle.sheets.specs.declared.sheet.SheetFault.{SheetFault}
 use Rattle.sheets.specs.declared.sheet.SheetFault.the-variants as sheet-fault
 use Rattle.sheets.specs.Faults.{Answers}
 use Rattle.sheets.specs.Lines.{faulted}
-use Rattle.sheets.specs.Printed.{Performed, Told, Prints}
+use Rattle.sheets.specs.Printed.{Told, Prints}
 use Rattle.sheets.specs.Sheets.{Meaning}
 
 opposed : (b : Bool) → b ≡ true → b ≡ false → ⊥

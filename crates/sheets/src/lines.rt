@@ -9,7 +9,6 @@ ghost use Rattle.jobs.specs.Jobs.{recorded-of, moment-of};
 ghost use Rattle.sheets.specs.Lines.{spaced, mark, reads-field, refusal-text, done, told, faulted};
 ghost use Rattle.std.specs.declared.option.Option.the-variants.{Some};
 use crate::sheet::Event;
-use costs::NumberKind;
 use jobs::Answer;
 use jobs::Moment;
 use jobs::Record;

@@ -9,7 +9,6 @@ ghost use Rattle.jobs.specs.Jobs.{recorded-of};
 ghost use Rattle.sheets.specs.Printed.{call-of, lines, Performed};
 use crate::lines::line;
 use crate::sheet::Event;
-use costs::NumberKind;
 use jobs::Call;
 use jobs::Job;
 use jobs::Record;
