@@ -1,8 +1,7 @@
 -- Adding and cancelling inequalities between small costs, those of weight at most 300.
 -- Each lemma takes the smallness of all its costs as one product at its end, which `omega` proves.
-use Rattle.std.proofs.Common.{◌≡◌, ◌≤◌, sym, ap, ◌∙◌, arith}
+use Rattle.std.proofs.Common.{◌≡◌, sym, ap, ◌∙◌, arith}
 use Rattle.costs.specs.Costs.{Costs, Laws}
-use Rattle.costs.specs.Limits.{largest}
 use Rattle.costs.proofs.Weights.{W, Le, sum_weight}
 
 abbrev pub Small : (K : Costs) → K.Cost → Type 0

@@ -1,7 +1,7 @@
 -- Sums of costs by weight: a cost has weight k where its size is at most k times the largest.
-use Rattle.std.proofs.Common.{◌≡◌, ℕ, ◌+◌, ◌*◌, ◌≤◌, Bool, true, false, T, ◌⊎◌, sym, refl, ap, ◌∙◌, subst, inl, inr, arith}
+use Rattle.std.proofs.Common.{◌≡◌, ℕ, ◌+◌, ◌*◌, ◌≤◌, T, arith}
 use Rattle.costs.specs.Costs.{Costs, Laws}
-use Rattle.costs.specs.Limits.{largest, room}
+use Rattle.costs.specs.Limits.{largest}
 
 module _ (K : Costs) where
   abbrev pub W : ℕ → K.Cost → Type 0

@@ -1,11 +1,11 @@
 -- The laws of numbers: within the room for sums no sum reaches an end of the range.
-use Rattle.std.specs.Prelude.{◌≡◌, ℕ, suc, ◌+◌, ◌≤◌, T, ◌⊎◌, ℤ, pos, negsuc, ◌+ℤ◌, ◌≤ℤ◌, int_le, unsigned_abs, refl}
-use Rattle.std.proofs.Common.{sym, ◌∙◌, ap, inl, inr, arith}
+use Rattle.std.specs.Prelude.{◌≡◌, ◌+◌, ◌≤◌, T, ◌⊎◌, ℤ, pos, negsuc, ◌+ℤ◌, ◌≤ℤ◌, int_le, unsigned_abs, refl}
+use Rattle.std.proofs.Common.{sym, ◌∙◌, ap, arith}
 use Rattle.std.proofs.Math.IntN.{+ℤ_comm, +ℤ_assoc, +ℤ_idr}
 use Rattle.std.specs.Int.Signed.{le_z_yes, ≤ℤ_refl}
 use Rattle.std.proofs.lemmas.Int.{ints}
 use Rattle.std.specs.Int.{saturate_to_bits}
-use Rattle.costs.specs.Costs.{Costs, Laws}
+use Rattle.costs.specs.Costs.{Laws}
 use Rattle.costs.specs.Limits.{room}
 use Rattle.costs.specs.Numbers.{numbers, held_sum}
 

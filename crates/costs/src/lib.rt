@@ -1,4 +1,6 @@
 // Kinds of cost: what costs are, how they add up and compare, and the laws that every plan rests on. For everybody.
+#![tactic(auto)]
+
 mod kind;
 mod number;
 mod ranked;

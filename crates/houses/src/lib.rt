@@ -1,4 +1,6 @@
 // House counts: the cost source of an archive's own scans, with the prices of extents. For everybody who plans over house counts.
+#![tactic(auto)]
+
 mod house;
 mod house_fault;
 mod prices;

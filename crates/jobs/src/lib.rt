@@ -1,4 +1,6 @@
 // Jobs: plans that live on, call by call, over a cost source. For everybody who plans.
+#![tactic(auto)]
+
 mod job;
 mod record;
 

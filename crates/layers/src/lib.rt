@@ -1,4 +1,6 @@
 // Layers: cost sources that stand on others, joined, paired, turned, or seen through a window. For everybody who plans over more than one source or over a part of one.
+#![tactic(auto)]
+
 mod joined;
 mod paired;
 mod turned;

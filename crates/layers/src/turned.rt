@@ -14,7 +14,7 @@ pub struct Turned<S> {
 impl<S: Source> Turned<S> {
     pub fn new(below: S) -> Self
         ensures holds { result.below ≡ below }
-        ensures means { meant Kind-as-Kind (turned_replies S.Source) result ≡ turned Kind-as-Kind.costs (meant Kind-as-Kind S.Source below) }
+        ensures means { meant S.Kind.Kind (turned_replies S.Source) result ≡ turned S.Kind.Kind.costs (meant S.Kind.Kind S.Source below) }
     {
         Turned { below }
     }

@@ -16,7 +16,7 @@ pub struct Window<S> {
 impl<S: Source> Window<S> {
     pub fn new(below: S, from: u32, to: u32) -> Self
         ensures holds { (result.below ≡ below) × (result.from ≡ from) × (result.to ≡ to) }
-        ensures means { meant Kind-as-Kind (window_replies S.Source) result ≡ window Kind-as-Kind.costs from to (meant Kind-as-Kind S.Source below) }
+        ensures means { meant S.Kind.Kind (window_replies S.Source) result ≡ window S.Kind.Kind.costs from to (meant S.Kind.Kind S.Source below) }
     {
         Window { below, from, to }
     }

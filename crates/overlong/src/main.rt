@@ -1,4 +1,6 @@
 // The planner once more, stored with a file that is one byte too long.
+#![tactic(auto)]
+
 use service::{ServeFault, Stream, serve};
 
 fn main(rt: HostRuntime) -> Result<(), ServeFault> {

@@ -1,4 +1,6 @@
 // The planner: a class sheet from standard input, the lines for it to standard output.
+#![tactic(auto)]
+
 use service::{ServeFault, Stream, serve};
 
 fn main(rt: HostRuntime) -> Result<(), ServeFault> {

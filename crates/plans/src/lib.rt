@@ -1,4 +1,6 @@
 // Plans: what a plan and a step are, and why a step is right. Each function's contract is a theorem, for every kind of cost.
+#![tactic(auto)]
+
 ghost use Rattle.plans.specs.Samples.{StepsOfTheSample};
 ghost use Rattle.plans.specs.Theorems.{BestPlanExists, AStepLeadsOn, CellsAreLeast, ClimbingLeadsThere, PlansInterlace, TotalsAreConvex, FurtherEnds, StepsKeepTheirShape, StepsReadLittle};
 

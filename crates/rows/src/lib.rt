@@ -1,4 +1,6 @@
 // Rows (inner): fills one row of a step from the row above it. Its functions ask that places and cells fit; only `steps` may use it.
+#![tactic(auto)]
+
 mod least;
 mod level;
 mod powers;

@@ -1,4 +1,6 @@
 // The planner's service: reads a class sheet from a stream or from memory, and writes the lines for it. For programs that answer sheets.
+#![tactic(auto)]
+
 mod serving;
 mod streams;
 

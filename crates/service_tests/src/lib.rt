@@ -1,4 +1,6 @@
 // Tests of the service: over memory by its contract, and over readers and writers that fail or are slow. Nobody uses it.
+#![tactic(auto)]
+
 ghost use Rattle.std.specs.Prelude.{◌≡◌, ℕ, List, ◌++◌, OnOk};
 ghost use Rattle.sheets.specs.Printed.{Prints};
 ghost use Rattle.decoder.specs.Sheets.{sheet};

@@ -1,5 +1,7 @@
 // Sheets as text. Each line of standard input is a sheet in hexadecimal digits, two for each byte;
 // for each, the text that the planner prints for it goes to standard output, and then a line `--`.
+#![tactic(auto)]
+
 ghost use Rattle.std.specs.Prelude.{◌≡◌, ℕ, ◌/◌, ◌%◌, ◌<◌, IfOk, MatchOption, ◌≢◌};
 ghost use Rattle.sheet_cases.specs.Spelled.{digit, spelled};
 

@@ -1,4 +1,6 @@
 // Class sheets: the events of a sheet performed over its counts, and the text that is printed for it. For everybody who answers sheets.
+#![tactic(auto)]
+
 mod answering;
 mod performing;
 

@@ -1,4 +1,6 @@
 // Tests of the kinds of cost and of the cost sources. Nobody uses it.
+#![tactic(auto)]
+
 #[cfg(test)]
 mod kinds;
 #[cfg(test)]

@@ -1,4 +1,6 @@
 // Cost sources: what a source of costs is, what it vouches for, and Glebov's condition looked at square by square. For everybody who plans or writes a source.
+#![tactic(auto)]
+
 mod source;
 mod squares;
 mod vouching;

@@ -11,5 +11,5 @@ pub trait Vouching: Source {
 
     fn bound(&self) -> u64
         ensures value { result ≡ vouched self.now }
-        ensures sound { result ≤ largest → Sound Vouching.Kind.Kind.costs (meant Vouching.Kind.Kind Self.Source self.now) result };
+        ensures sound { result ≤ largest → Sound Self.Kind.Kind.costs (meant Self.Kind.Kind Self.Source self.now) result };
 }

@@ -16,8 +16,8 @@ use steps::Cuts;
 impl<S: Source> Job<S> {
     // A shut job over the source: end 0, no cuts, total zero.
     pub fn new(source: S) -> Job<S>
-        ensures state { state_of Kind-as-Kind result ≡ shut }
-        ensures blank { (result.end ≡ 0) × (in_use result.cuts ≡ []) × (Kind-as-Kind.means result.total ≡ Kind-as-Kind.costs.nil) }
+        ensures state { state_of S.Kind.Kind result ≡ shut }
+        ensures blank { (result.end ≡ 0) × (in_use result.cuts ≡ []) × (S.Kind.Kind.means result.total ≡ S.Kind.Kind.costs.nil) }
         ensures source { result.source ≡ source }
     {
         Job {
@@ -72,7 +72,7 @@ impl<S: Source> Job<S> {
 impl<S: Vouching> Job<S> {
     // Opens the job on the word of its source.
     pub fn open_vouched(&mut self) -> Result<(), Refusal>
-        ensures { Did Kind-as-Kind S.Source (S.Vouching.vouched self.old.source) OpenVouched self.old self.new [] [] (opening Kind-as-Kind result) }
+        ensures { Did S.Kind.Kind S.Source (S.Vouching.vouched self.old.source) OpenVouched self.old self.new [] [] (opening S.Kind.Kind result) }
     {
         let bound = self.source.bound();
         opened(self.act(Call::OpenVouched, bound, &mut []))

@@ -11,12 +11,12 @@ use Rattle.printer.proofs.lines.moment_line.Goals as goal
 pub returns : goal.returns
 returns c =
     let o = c.args.moment.now in
-    let m = c.mark-of-mark.result.now in
+    let m = c.mark_of-mark.result.now in
     let ps = c.places-places.result.now in
-    let r = string_bytes c.in-ok-reads.reads in
-    let cs = string_bytes c.in-ok-cuts.cuts in
+    let r = string_bytes c.in_ok-reads.reads in
+    let cs = string_bytes c.in_ok-cuts.cuts in
     IfOk-weaker c.format.result
     (λ s. string_bytes s ≡ m ++ (codes " 0 " ++ (decimal o.end ++ (codes " " ++ (decimal (length ps) ++ (codes " " ++ (signed_decimal o.total ++ (codes " " ++ (r ++ (cs ++ codes "\n"))))))))))
     (λ s. string_bytes s ≡ done c.args.event c.args.reads (moment_of plain (Some o)))
-    (λ s e. e ∙ done_line c.args.event o.end o.total c.args.reads (in_use o.cuts) m r cs ps c.mark-of-mark.ensures c.in-ok-reads.ensures c.in-ok-cuts.ensures c.places-places.ensures)
+    (λ s e. e ∙ done_line c.args.event o.end o.total c.args.reads (in_use o.cuts) m r cs ps c.mark_of-mark.ensures c.in_ok-reads.ensures c.in_ok-cuts.ensures c.places-places.ensures)
     c.format.ensures.ok

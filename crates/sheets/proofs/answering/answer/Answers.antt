@@ -10,8 +10,8 @@ use Rattle.sheets.proofs.answering.answer.Goals as goal
 pub returns-in-Err : goal.returns-in-Err
 returns-in-Err c =
     let meaning = sheet c.args.bytes.now in
-    IfOk-weaker c.sheet-fault-line.result
+    IfOk-weaker c.sheet_fault_line.result
     (λ s. (place : ℕ) × (c.in-Err.fault ≡ Malformed place) × (string_bytes s ≡ faulted 13 place))
     (λ s. Prints meaning (string_bytes s))
     (λ s e. prints_fault meaning c.in-Err.fault (string_bytes s) c.in-Err.ensures e)
-    c.sheet-fault-line.ensures
+    c.sheet_fault_line.ensures

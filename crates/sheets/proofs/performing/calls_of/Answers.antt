@@ -6,8 +6,8 @@ use Rattle.sheets.proofs.performing.calls_of.Goals as goal
 
 pub loop-event-preserved : goal.loop-event-preserved
 loop-event-preserved c =
-    c.in-ok-push.ensures.items
-    ∙ (λ i. c.loop-event.invariant i ++ c.performing-call.ensures i ∷ [])
+    c.in_ok-push.ensures.items
+    ∙ (λ i. c.loop-event.invariant i ++ c.performing_call.ensures i ∷ [])
     ∙ sym (map_more call_of c.args.events.now c.loop-event.event-index Open c.loop-event-test.true)
 
 pub returns : goal.returns

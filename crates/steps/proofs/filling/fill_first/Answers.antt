@@ -10,20 +10,20 @@ loop-y-init g c = (refl, refl, refl)
 
 pub loop-y-preserved : goal.loop-y-preserved
 loop-y-preserved g c =
-    let k = g.Kind.Kind in
+    let k = g.S.Kind.Kind in
     let s = meant k g.S.Source c.args.source.now in
     let cells = c.loop-y.cells in
     let y = c.loop-y.y in
-    let v = c.in-ok-cells.field-0 in
+    let v = c.in_ok-cells.field-0 in
     let inv = c.loop-y.invariant in (
       length-set cells y v ∙ inv.0,
-      cells_more k.means (s.cost 0) cells y v (omega arith) inv.1 (ap k.means c.in-ok-cells.ensures.2),
+      cells_more k.means (s.cost 0) cells y v (omega arith) inv.1 (ap k.means c.in_ok-cells.ensures.2),
       drop-set-lt (c.args.x + 1) cells y v (omega arith) ∙ inv.2,
     )
 
 pub returns : goal.returns
 returns g c =
-    let k = g.Kind.Kind in
+    let k = g.S.Kind.Kind in
     let s = meant k g.S.Source c.args.source.now in
     let inv = c.loop-y.invariant in
     let all : c.loop-y.y ≡ c.args.x + 1 = omega arith in

@@ -7,7 +7,7 @@ use Rattle.steps.proofs.stepping.climb.Goals as goal
 
 pub loop-init : goal.loop-init
 loop-init g c =
-    let k = g.Kind.Kind in
+    let k = g.S.Kind.Kind in
     let first = ap k.means (MatchOption-at_some _ _ c.unwrap.result c.unwrap.ensures c.cost.ensures).2 in
     (refl, climbed_first k (meant k g.S.Source c.args.source.now) c.args.end c.args.cells.now _ c.none.ensures.0 first refl)
 
@@ -16,14 +16,14 @@ step-next-requires g c =
     let done = c.loop.invariant.1 in
     record { plan = climbed_plan done; few = omega (arith, done.left.used); within = c.requires.1; short = c.requires.2; room = omega (arith, done.left.used) }
 
-pub overflow-add-reads : goal.overflow-add-reads
-overflow-add-reads g c = record { fits = omega (arith, climbed_reads c.loop.invariant.1 c.requires.2 (omega arith) c.step-next.ensures) }
+pub overflow_add-reads : goal.overflow_add-reads
+overflow_add-reads g c = record { fits = omega (arith, climbed_reads c.loop.invariant.1 c.requires.2 (omega arith) c.step-next.ensures) }
 
 pub loop-preserved : goal.loop-preserved
 loop-preserved g c = (omega arith, climbed_more c.loop.invariant.1 c.requires.2 (omega arith) c.step-next.ensures)
 
 pub returns : goal.returns
 returns g c =
-    let k = g.Kind.Kind in
+    let k = g.S.Kind.Kind in
     let all : c.loop.counter ≡ c.args.count = omega arith in
     subst (λ z. ClimbLeft k (meant k g.S.Source c.args.source.now) c.args.end z c.args.cells.now c.loop.cells c.loop.reached) all c.loop.invariant.1.left

@@ -6,4 +6,4 @@ use Rattle.steps.proofs.stepping.climb.Given as goal
 abbrev pub invariant-loop : goal.invariant-loop
 invariant-loop g l =
     (length l.cells ≡ length l.initial.cells)
-    × Climbed g.Kind.Kind (meant g.Kind.Kind g.S.Source l.source) l.end l.initial.cells l.counter l.cells l.reached
+    × Climbed g.S.Kind.Kind (meant g.S.Kind.Kind g.S.Source l.source) l.end l.initial.cells l.counter l.cells l.reached

@@ -10,17 +10,17 @@ use Rattle.jobs.proofs.Doing.{does_add, refused_plan, done_plan, done_kept, touc
 use Rattle.jobs.proofs.PlansInUse.{plan_from}
 use Rattle.jobs.proofs.job.Job.step_on.Goals as goal
 
-pub returns-in-err-check-room : goal.returns-in-err-check-room
-returns-in-err-check-room g c bound =
-    let k = g.Kind.Kind in
+pub returns-in_err-check_room : goal.returns-in_err-check_room
+returns-in_err-check_room g c bound =
+    let k = g.S.Kind.Kind in
     let job = c.args.self.now in
     let s = meant k g.S.Source job.source in
     let n = c.count-count.result in
     let cells = c.args.cells.now in
-    let p = err_from_is_err_and c.from-residual.result c.from-residual.ensures.1 in
+    let p = err_from_is_err_and c.from_residual.result c.from_residual.ensures.1 in
     rw (p.1, p.2) (record {
       source = refl;
-      outcome = refused_plan k s job c.requires job.end (n + 1) cells _ _ c.in-err-check-room.ensures
+      outcome = refused_plan k s job c.requires job.end (n + 1) cells _ _ c.in_err-check_room.ensures
           ∙ sym (does_add k s job c.requires bound n (map k.means cells) (c.count-count.ensures.length job.few) (omega arith));
       kept = refl;
     })
@@ -30,7 +30,7 @@ step-stepped-requires g c =
     let job = c.args.self.now in
     let counted = c.count-count.ensures in
     let long : length (in_use job.cuts) ≡ job.cuts.used = sym (counted.length job.few) ∙ counted.value in
-    let room = c.in-ok-check-room.ensures in
+    let room = c.in_ok-check_room.ensures in
     record {
       plan = plan_from job.cuts.row job.cuts.used job.end long job.rising job.within;
       few = omega (arith, counted.value);
@@ -41,7 +41,7 @@ step-stepped-requires g c =
 
 pub invariant-of-self : goal.invariant-of-self
 invariant-of-self g c =
-    let k = g.Kind.Kind in
+    let k = g.S.Kind.Kind in
     let job = c.args.self.now in
     let s = meant k g.S.Source job.source in
     let counted = c.count-count.ensures in
@@ -55,14 +55,14 @@ invariant-of-self g c =
 
 pub returns : goal.returns
 returns g c bound =
-    let k = g.Kind.Kind in
+    let k = g.S.Kind.Kind in
     let job = c.args.self.now in
     let s = meant k g.S.Source job.source in
     let n = c.count-count.result in
     let cells = map k.means c.args.cells.now in
     let counted = c.count-count.ensures in
     let came = c.step-stepped.ensures in
-    let room = c.in-ok-check-room.ensures in
+    let room = c.in_ok-check_room.ensures in
     let more = step_length k.costs s (in_use job.cuts) job.end in
     let past : job.end + job.cuts.used + 1 ≡ touched job.end (suc (length (in_use job.cuts))) = omega (arith, touched_some job.end (suc (length (in_use job.cuts))) (omega arith), counted.length job.few, counted.value) in
     record {

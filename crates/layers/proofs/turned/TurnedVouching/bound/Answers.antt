@@ -5,5 +5,5 @@ use Rattle.layers.proofs.turned.TurnedVouching.bound.Goals as goal
 pub returns : goal.returns
 returns g c = record {
   value = omega arith;
-  sound = λ h. turned_sound g.row.A-Kind-Kind.costs g.met.A.Kind.Kind.laws h (c.bound.ensures.sound h);
+  sound = λ h. turned_sound g.S.Kind.Kind.costs g.met.S.Kind.Kind.laws h (c.bound.ensures.sound h);
 }

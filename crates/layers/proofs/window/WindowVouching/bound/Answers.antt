@@ -5,5 +5,5 @@ use Rattle.layers.proofs.window.WindowVouching.bound.Goals as goal
 pub returns : goal.returns
 returns g c = record {
   value = omega arith;
-  sound = λ h. window_sound g.row.A-Kind-Kind.costs c.args.self.now.from c.args.self.now.to (c.bound.ensures.sound h);
+  sound = λ h. window_sound g.S.Kind.Kind.costs c.args.self.now.from c.args.self.now.to (c.bound.ensures.sound h);
 }

@@ -16,5 +16,5 @@ returns c =
     record {
       all = xs;
       given = refl;
-      first = c.in-ok-from-slice.ensures.items ∙ take_cut xs c.args.most c.min-most.result c.min-most.ensures;
+      first = c.in_ok-from_slice.ensures.items ∙ take_cut xs c.args.most c.min-most.result c.min-most.ensures;
     }
