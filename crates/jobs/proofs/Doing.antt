@@ -35,7 +35,7 @@ module _ (K : Costs) (s : Scale K) (o : Opened K) (e n : ℕ) (cells : List K.Co
   planned_done h i = cond-true _ _ _ (le-leb e (min s.last longest) h) ∙ cond-true _ _ _ (le-leb (e + n) (length cells) i)
 
 -- the same of an open job and of the cells that it was lent
-module _ {V S : Type 0} (k : kind.Ghosts V) (s : Scale k.costs) (j : Job S V) (is_open : j.stage ≡ Open) where
+module _ {V S : Type 0} {src : source.Ghosts S V} (k : kind.Ghosts V) (s : Scale k.costs) (j : Job S V src k) (is_open : j.stage ≡ Open) where
   pub open_state : state_of k j ≡ opened (plan_of k j)
   open_state = ap (λ x. at_stage x (plan_of k j)) is_open
 
@@ -88,6 +88,6 @@ module _ {V : Type 0} {k : kind.Ghosts V} {t : steps.Stepped k.costs} {n past : 
   came_within e p = within_from r.cuts.row r.cuts.used e long (came_plan e p)
 
 -- what a call did, put in other terms
-pub did_as : {V S : Type 0} {k : kind.Ghosts V} {m : source.Ghosts S V} {bound : ℕ} {call call' : Call} {before after : Job S V} {old new : List V} {answer answer' : Answer k.costs}
+pub did_as : {V S : Type 0} {k : kind.Ghosts V} {m : source.Ghosts S V} {bound : ℕ} {call call' : Call} {before after : Job S V m k} {old new : List V} {answer answer' : Answer k.costs}
     → call ≡ call' → answer ≡ answer' → Did k m bound call' before after old new answer' → Did k m bound call before after old new answer
 did_as p q did = rw (p, q) did

@@ -36,13 +36,13 @@ agree_on a n xs ys h e =
 
 -- ---- the state of a run
 
-pub record Running {V S : Type 0} (k : kind.Ghosts V) (m : source.Ghosts S V) (bound : ℕ) (calls : List Call) (before at : Job S V) (old cells : List V) (records : List (Record V)) (i : ℕ) : Type 0 where
+pub record Running {V S : Type 0} (k : kind.Ghosts V) (m : source.Ghosts S V) (bound : ℕ) (calls : List Call) (before at : Job S V m k) (old cells : List V) (records : List (Record V)) (i : ℕ) : Type 0 where
   pub source : at.source ≡ before.source
   pub going : after (map (recorded_of k) records) (runs k.costs (meant k m before.source) bound (state_of k at) (map k.means cells) (drop i calls)) ≡ runs k.costs (meant k m before.source) bound (state_of k before) (map k.means old) calls
   pub kept : drop (furthest (map (recorded_of k) records)) cells ≡ drop (furthest (map (recorded_of k) records)) old
   pub life : Life k.costs (meant k m before.source) bound (state_of k before) → Lived k.costs (meant k m before.source) bound (map (recorded_of k) records) × Life k.costs (meant k m before.source) bound (state_of k at)
 
-module _ {V S : Type 0} (k : kind.Ghosts V) (m : source.Ghosts S V) (bound : ℕ) (calls : List Call) (before : Job S V) (old : List V) where
+module _ {V S : Type 0} (k : kind.Ghosts V) (m : source.Ghosts S V) (bound : ℕ) (calls : List Call) (before : Job S V m k) (old : List V) where
   abbrev s : Scale k.costs
   s = meant k m before.source
 
@@ -58,7 +58,7 @@ module _ {V S : Type 0} (k : kind.Ghosts V) (m : source.Ghosts S V) (bound : ℕ
   pub running_first : Running k m bound calls before before old old [] 0
   running_first = record { source = refl; going = refl; kept = refl; life = λ l. (tt, l) }
 
-  pub running_more : {at next : Job S V} {cells new : List V} {records : List (Record V)} {i : ℕ} (call : Call) (rest : List Call) (r : Record V) (answer : Answer k.costs)
+  pub running_more : {at next : Job S V m k} {cells new : List V} {records : List (Record V)} {i : ℕ} (call : Call) (rest : List Call) (r : Record V) (answer : Answer k.costs)
       → Running k m bound calls before at old cells records i → drop i calls ≡ call ∷ rest → drop (i + 1) calls ≡ rest
       → Did k m bound call at next cells new answer → recorded_of k r ≡ record { call = call; answer = answer; state = state_of k next }
       → Running k m bound calls before next old new (records ++ r ∷ []) (i + 1)
@@ -79,7 +79,7 @@ module _ {V S : Type 0} (k : kind.Ghosts V) (m : source.Ghosts S V) (bound : ℕ
             (rw pushed (lived_push rs q (run.life l).0 now), now);
       }
 
-  pub running_last : {at : Job S V} {cells : List V} {records : List (Record V)} {i : ℕ} → Running k m bound calls before at old cells records i → length calls ≤ i → Law k.costs s bound → Ran k m bound calls before at old cells records
+  pub running_last : {at : Job S V m k} {cells : List V} {records : List (Record V)} {i : ℕ} → Running k m bound calls before at old cells records i → length calls ≤ i → Law k.costs s bound → Ran k m bound calls before at old cells records
   running_last {at} {cells} {records} {i} run h law =
       let rs : List (Recorded k.costs) = map (recorded_of k) records in
       let end : drop i calls ≡ [] = drop_all i calls h in

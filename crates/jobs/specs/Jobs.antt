@@ -21,14 +21,14 @@ use Rattle.calls.specs.Calls as calls
 use Rattle.calls.specs.Calls.{Opened, State, shut, opened, refused, accepted, counted, nothing, shown, does, filled}
 
 -- the plan that a job holds
-abbrev pub plan_of : {V S : Type 0} (k : kind.Ghosts V) → Job S V → Opened k.costs
+abbrev pub plan_of : {V S : Type 0} {m : source.Ghosts S V} (k : kind.Ghosts V) → Job S V m k → Opened k.costs
 plan_of k j = record { end = j.end; cuts = in_use j.cuts; total = k.means j.total }
 
 abbrev pub at_stage : {K : Costs} → Stage → Opened K → State K
 at_stage Shut o = shut
 at_stage Open o = opened o
 
-abbrev pub state_of : {V S : Type 0} (k : kind.Ghosts V) → Job S V → State k.costs
+abbrev pub state_of : {V S : Type 0} {m : source.Ghosts S V} (k : kind.Ghosts V) → Job S V m k → State k.costs
 state_of k j = at_stage j.stage (plan_of k j)
 
 abbrev pub view_of : {V : Type 0} (k : kind.Ghosts V) → View V → calls.Shown k.costs
@@ -81,13 +81,13 @@ looking k (Some v) = shown (view_of k v)
 
 -- A call came from the job `before` and the cells `old` to `after` and `new`, with this answer, as is defined.
 -- The cells that it fills are fixed by the costs that they stand for, and the others keep their values.
-pub record Did {V S : Type 0} (k : kind.Ghosts V) (m : source.Ghosts S V) (bound : ℕ) (call : Call) (before after : Job S V) (old new : List V) (answer : calls.Answer k.costs) : Type 0 where
+pub record Did {V S : Type 0} (k : kind.Ghosts V) (m : source.Ghosts S V) (bound : ℕ) (call : Call) (before after : Job S V m k) (old new : List V) (answer : calls.Answer k.costs) : Type 0 where
   pub source : after.source ≡ before.source
   pub outcome : record { state = state_of k after; cells = map k.means new; answer = answer } ≡ does k.costs (meant k m before.source) bound (state_of k before) call (map k.means old)
   pub kept : drop (filled (state_of k after) answer) new ≡ drop (filled (state_of k after) answer) old
 
 -- The calls ran from the job `before` and the cells `old` to `after` and `new`, as is defined, with these records; the records go on with the life of the job, and the law holds in every life over its source.
-pub record Ran {V S : Type 0} (k : kind.Ghosts V) (m : source.Ghosts S V) (bound : ℕ) (made : List Call) (before after : Job S V) (old new : List V) (records : List (Record V)) : Type 0 where
+pub record Ran {V S : Type 0} (k : kind.Ghosts V) (m : source.Ghosts S V) (bound : ℕ) (made : List Call) (before after : Job S V m k) (old new : List V) (records : List (Record V)) : Type 0 where
   pub source : after.source ≡ before.source
   pub run : record { records = map (recorded_of k) records; state = state_of k after; cells = map k.means new } ≡ runs k.costs (meant k m before.source) bound (state_of k before) (map k.means old) made
   pub kept : drop (furthest (map (recorded_of k) records)) new ≡ drop (furthest (map (recorded_of k) records)) old

@@ -18,8 +18,8 @@ returns-in_err-check_room g c =
       kept = refl;
     })
 
-pub invariant-of-self : goal.invariant-of-self
-invariant-of-self g c =
+pub invariant_of-self : goal.invariant_of-self
+invariant_of-self g c =
     let k = g.S.Kind.Kind in
     let s = meant k g.S.Source c.args.self.now.source in
     let e = c.args.end in
@@ -27,10 +27,12 @@ invariant-of-self g c =
     let short : e ≤ longest = omega (arith, c.in_ok-check_room.ensures.0) in
     let came = c.climb-climbed.ensures in
     let number = climb_length k.costs s e cells c.args.count in
-    let plan = climb_plan k.costs s e cells c.args.count in (
-      short,
-      (omega (arith, came.used, c.requires.1), (came_rising came number e plan, (came_within came number e plan, tt))),
-    )
+    let plan = climb_plan k.costs s e cells c.args.count in record {
+      short = short;
+      few = omega (arith, came.used, c.requires.1);
+      rising = came_rising came number e plan;
+      within = came_within came number e plan;
+    }
 
 pub returns : goal.returns
 returns g c =

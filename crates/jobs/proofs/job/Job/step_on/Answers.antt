@@ -39,8 +39,8 @@ step-stepped-requires g c =
       room = omega (arith, room.1, counted.value);
     }
 
-pub invariant-of-self : goal.invariant-of-self
-invariant-of-self g c =
+pub invariant_of-self : goal.invariant_of-self
+invariant_of-self g c =
     let k = g.S.Kind.Kind in
     let job = c.args.self.now in
     let s = meant k g.S.Source job.source in
@@ -48,10 +48,12 @@ invariant-of-self g c =
     let long : length (in_use job.cuts) ≡ job.cuts.used = sym (counted.length job.few) ∙ counted.value in
     let came = c.step-stepped.ensures in
     let number : length (step k.costs s (in_use job.cuts) job.end).cuts ≡ job.cuts.used + 1 = omega (arith, step_length k.costs s (in_use job.cuts) job.end, long) in
-    let plan = step_plan k.costs s (in_use job.cuts) job.end (plan_from job.cuts.row job.cuts.used job.end long job.rising job.within) in (
-      job.short,
-      (omega (arith, came.used, counted.value), (came_rising came number job.end plan, (came_within came number job.end plan, tt))),
-    )
+    let plan = step_plan k.costs s (in_use job.cuts) job.end (plan_from job.cuts.row job.cuts.used job.end long job.rising job.within) in record {
+      short = job.short;
+      few = omega (arith, came.used, counted.value);
+      rising = came_rising came number job.end plan;
+      within = came_within came number job.end plan;
+    }
 
 pub returns : goal.returns
 returns g c bound =
