@@ -40,7 +40,7 @@ lines_all {es} {rs} {whole} text (inr e) old =
 
 -- ---- the run
 
-module _ (counts : HouseCounts) (events : List Event) (calls : List Call) (job after : Job HouseCounts ℤ) (cells new : List ℤ) (rs : List (Record ℤ)) where
+module _ (counts : HouseCounts) (events : List Event) (calls : List Call) (job after : Job HouseCounts ℤ house-replies plain) (cells new : List ℤ) (rs : List (Record ℤ)) where
   abbrev held : HouseCounts → List ℕ
   held h = vec_items h.counts
 

@@ -3,5 +3,7 @@
 
 mod answering;
 mod performing;
+#[cfg(test)]
+mod tests;
 
 pub use answering::answer;

@@ -19,9 +19,9 @@ returns c =
     (λ s. string_bytes s ≡ lines events (map (recorded_of plain) written))
     (λ s. Performed (vec_items c.args.counts.counts) events (string_bytes s))
     (λ s e.
-    performed c.args.counts events c.deref.result.now c.new-job.result c.run.new.self c.deref-mut.result.now c.run.new.cells (vec_items c.in_ok-records.records) (string_bytes s)
+    performed c.args.counts events c.deref.result.now c.new-job.result c.run.new.self c.deref_mut.result.now c.run.new.cells (vec_items c.in_ok-records.records) (string_bytes s)
     (c.deref.ensures.value ∙ c.in_ok-calls.ensures)
-    (c.deref-mut.ensures.value ∙ c.in_ok-cells.ensures.items-if-clones-equal (λ y h. h))
+    (c.deref_mut.ensures.value ∙ c.in_ok-cells.ensures.items_if_clones_equal (λ y h. h))
     c.new-job.ensures.state c.new-job.ensures.source c.in_ok-records.ensures
     (e ∙ ap (λ l. lines events (map (recorded_of plain) l)) c.deref-2.ensures.value))
     c.lines_text.ensures
