@@ -6,6 +6,7 @@ ghost use Rattle.service.specs.Served.{Outcome};
 use crate::streams::{LineWriter, SheetReader};
 use sheets::answer;
 use std::alloc::{AllocError, Global};
+use std::error::Error;
 use std::{fmt, io};
 
 // One byte more than a sheet may have, so that a file that is too long is seen to be.
@@ -37,13 +38,15 @@ impl fmt::Display for ServeFault {
     }
 }
 
+impl Error for ServeFault {}
+
 // Reads a sheet and writes the lines for it. Of a file that is too long only the front is read, and the lines are those for all of it.
 pub fn serve<R: SheetReader, W: LineWriter>(
     heap: Global,
     reader: R,
     writer: &mut W,
 ) -> Result<(), ServeFault>
-    ensures { Outcome (gives reader) took writer.old writer.new result }
+    ensures { Outcome (R.gives reader) W.took writer.old writer.new result }
 {
     let bytes = match reader.read_at_most(heap, MOST_BYTES) {
         Ok(bytes) => bytes,
