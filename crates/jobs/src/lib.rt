@@ -4,6 +4,7 @@
 mod job;
 mod record;
 
+pub use calls::{Answer, Call, Refusal, View, law_of_lives};
 pub use job::Job;
 pub use record::{Moment, Record};
 pub use steps::Cuts;

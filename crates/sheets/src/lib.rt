@@ -7,3 +7,5 @@ mod performing;
 mod tests;
 
 pub use answering::answer;
+pub use decoder::{Event, Sheet, SheetFault, decode};
+pub use printer::{fault_line, line};
