@@ -1,10 +1,10 @@
 -- The checked opening decides Glebov's condition.
-use Rattle.std.proofs.Common.{◌≡◌, ℕ, ◌+◌, ◌≤◌, Bool, true, false, not, T, List, Some, None, Option, refl, ⊎_elim, arith}
+use Rattle.std.proofs.Common.{◌≡◌, ℕ, ◌≤◌, Bool, true, false, not, T, List, Some, None, Option, refl, ⊎_elim, arith}
 use Rattle.std.proofs.lemmas.Bool.{cases_lt, le-leb, lt-leb}
 use Rattle.costs.specs.Costs.{Costs, Laws}
 use Rattle.costs.specs.Limits.{largest}
-use Rattle.sources.specs.Scales.{Scale, Sized, Glebov, Sound}
-use Rattle.sources.specs.Squares.{holds, too_large, first_large, first_broken, FirstLarge, FirstBroken}
+use Rattle.sources.specs.Scales.{Scale, Sized, Glebov}
+use Rattle.sources.specs.Squares.{holds, first_large, first_broken, FirstBroken}
 use Rattle.sources.proofs.Firsts.{first_is}
 use Rattle.sources.proofs.Quadrangles.{squares_decide_lem, sized_at_none, glebov_at_none}
 use Rattle.plans.specs.Limits.{longest}

@@ -15,7 +15,7 @@ use Rattle.jobs.specs.declared.job.Stage.TheVariants.{Shut, Open}
 use Rattle.jobs.specs.declared.record.Moment.{Moment}
 use Rattle.jobs.specs.declared.record.Record.{Record}
 use Rattle.calls.specs.declared.refusal.Refusal.{Refusal}
-use Rattle.calls.specs.Runs.{Recorded, Run, runs, Lived, furthest}
+use Rattle.calls.specs.Runs.{Recorded, runs, Lived, furthest}
 use Rattle.calls.specs.Lives.{Life, Law}
 use Rattle.calls.specs.Calls as calls
 use Rattle.calls.specs.Calls.{Opened, State, shut, opened, refused, accepted, counted, nothing, shown, does, filled}

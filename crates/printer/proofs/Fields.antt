@@ -1,7 +1,6 @@
 -- The fields of a line, as they are written one after another.
 use Rattle.std.proofs.Common.{◌≡◌, ℕ, ◌+◌, ◌<◌, List, [], ◌∷◌, ◌++◌, map, length, get_or, take, ℤ, codes, decimal, Option, sym, ap, ◌∙◌, append_assoc, append-nil}
 use Rattle.std.proofs.lemmas.List.{map_more, flat_map_more}
-use Rattle.std.specs.List.{flat_map}
 use Rattle.std.specs.Fmt.{signed_decimal}
 use Rattle.calls.specs.Calls.{opened}
 use Rattle.decoder.specs.declared.sheet.Event.{Event}

@@ -26,10 +26,10 @@ fn repeated(heap: Global, record: &[u8], times: u32, more: &[u8]) -> Result<Vec<
 fn reads_counts_and_events(rt: HostRuntime) -> Result<(), Fail> {
     let bytes = b"CT\x00\x00\x00\x00CT\x00\x00\x00\x03CT\x00\x01\x02\x03OPADDRRE\x01\x02";
     let sheet = decode(rt.alloc(), bytes)?;
-    assert_eq!(rt; sheet.counts.as_slice(), &[0, 3, 0x0001_0203]);
+    assert_eq!(rt; sheet.counts.as_slice(), [0, 3, 0x0001_0203].as_slice());
     assert_eq!(rt;
         sheet.events.as_slice(),
-        &[Event::Open, Event::Add, Event::Drop, Event::Reach(258)]
+        [Event::Open, Event::Add, Event::Drop, Event::Reach(258)].as_slice()
     );
     Ok(())
 }

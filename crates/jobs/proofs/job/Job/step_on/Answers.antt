@@ -1,7 +1,6 @@
-use Rattle.std.proofs.Common.{◌≡◌, suc, ◌+◌, ◌<◌, ◌≤◌, map, length, sym, refl, ap, ◌∙◌, arith}
+use Rattle.std.proofs.Common.{◌≡◌, suc, ◌+◌, map, length, sym, refl, ap, ◌∙◌, arith}
 use Rattle.std.proofs.lemmas.Result.{err_from_is_err_and}
 use Rattle.sources.specs.Meant.{meant}
-use Rattle.plans.specs.Limits.{longest}
 use Rattle.plans.specs.Steps.{step}
 use Rattle.plans.proofs.Shapes.{step_length, step_plan}
 use Rattle.plans.specs.Steps.{touched}
