@@ -6,7 +6,7 @@ use sources::Source;
 use steps::Cuts;
 
 mod acting;
-mod calls;
+mod calling;
 mod looking;
 mod opening;
 mod planning;

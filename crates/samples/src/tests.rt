@@ -8,7 +8,7 @@ use std::process::Abort;
 use std::test::Fail;
 use tables::Table;
 
-mod layers;
+mod layered;
 mod limits;
 mod lives;
 mod runs;

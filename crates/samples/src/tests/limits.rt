@@ -1,11 +1,7 @@
 // Jobs at the limits of costs, ends, cuts and bounds.
-use super::{house, opened, plan, refused, table, told};
-use houses::HouseCounts;
-use jobs::Job;
+use super::*;
 use layers::{Joined, Window};
-use std::alloc::Global;
 use std::process::Abort;
-use std::test::Fail;
 
 // 4,097 house counts with the largest bound.
 fn dearest(rt: &impl Abort, heap: Global) -> Result<HouseCounts, Fail> {

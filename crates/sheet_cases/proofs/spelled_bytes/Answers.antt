@@ -1,4 +1,4 @@
-use Rattle.std.proofs.Common.{vec_items, rules}
+use Rattle.std.proofs.Common.{rules}
 use Rattle.sheet_cases.proofs.Spelling.{read_more, read_all}
 use Rattle.sheet_cases.proofs.spelled_bytes.Goals as goal
 

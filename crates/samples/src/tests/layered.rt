@@ -1,12 +1,8 @@
 // Jobs over sources that stand on others.
-use super::{house, plan, told};
+use super::*;
 use costs::Ranked;
-use houses::HouseCounts;
-use jobs::Job;
 use layers::{Joined, Paired, Turned, Window};
 use sources::Vouching;
-use std::alloc::Global;
-use std::test::Fail;
 
 // Opens a job over the source, and adds a cut and then another.
 fn grown<S: Vouching + Drop>(source: S, cells: &mut [S::Kind]) -> Result<Job<S>, u8> {
