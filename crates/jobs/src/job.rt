@@ -16,7 +16,7 @@ mod running;
 const LONGEST: u32 = 4096;
 
 // Whether a job has been opened.
-#[derive(Clone, Copy)]
+#[derive(Clone, Copy, PartialEq, Eq, Debug)]
 pub enum Stage {
     Shut,
     Open,

@@ -13,7 +13,7 @@ pub fn squares_decide<V: Kind>()
     ensures { SquaresDecide V.Kind.costs }
 {}
 
-// The first bad class or square is bad, and none before it.
+// The first class or square that fails a test is bad, and none before it.
 pub fn firsts_are_first<V: Kind>()
     ensures { FirstsAreFirst V.Kind.costs }
 {}

@@ -2,6 +2,7 @@
 use Rattle.std.specs.Prelude.{ℕ, suc, ◌<◌, ◌≤◌, List, take, slice_index}
 use Rattle.steps.specs.declared.cuts.Cuts.{Cuts}
 
+-- the cuts in use
 abbrev pub in_use : Cuts → List ℕ
 in_use c = take c.used c.row
 
