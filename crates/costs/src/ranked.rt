@@ -7,7 +7,7 @@ ghost use Rattle.std.proofs.Common.{rules};
 
 use crate::kind::Kind;
 
-#[derive(Clone, Copy, Debug, PartialEq, Eq)]
+#[derive(Clone, Copy, Debug, PartialEq, Eq, PartialOrd, Ord)]
 pub struct Ranked {
     pub first: i64,
     pub second: i64,
@@ -38,7 +38,7 @@ impl Kind for Ranked {
     }
 
     fn at_most(self, other: Ranked) -> bool {
-        self.first < other.first || self.first == other.first && self.second <= other.second
+        self <= other
     }
 
     fn size(self) -> u64 {

@@ -1,7 +1,11 @@
 -- The price table: its rule and its order, by one test that the checker computes entry by entry.
-use Rattle.std.proofs.Common.{◌≡◌, ℕ, zero, suc, ◌+◌, ◌<◌, ◌≤◌, Bool, true, ◌&&◌, eqb, leb, List, [], ◌∷◌, map, length, get_or, refl, ap, ◌∙◌, zero-add, arith}
+use Rattle.std.proofs.Common.{◌≡◌, ℕ, zero, suc, ◌+◌, ◌<◌, ◌≤◌, Bool, true, Some, None, Option, ◌&&◌, eqb, leb, List, [], ◌∷◌, map, length, get_or, refl, ap, ◌∙◌, zero-add, arith}
 use Rattle.std.proofs.lemmas.Bool.{and_parts, eqb-true, leb-true}
+use Rattle.std.proofs.lemmas.List.FromFn.{length-map-range_with_len}
+use Rattle.std.specs.Borrow.{Bor}
 use Rattle.std.specs.List.{range_with_len}
+use Rattle.std.specs.Option.{MatchOption, option_copied}
+use Rattle.std.specs.Slice.{IsItemAt}
 use Rattle.houses.specs.Houses.{price}
 
 -- each entry has the price of its length, the first of the list that of y, and none is below the one before
@@ -52,3 +56,11 @@ price_at y h = let i : y < 4097 = omega arith in in_table.rule y i ∙ ap price 
 -- no shorter extent has a higher price
 pub price_rises : (x y : ℕ) → x ≤ y → y ≤ 4096 → price x ≤ price y
 price_rises x y l h = let i : y < 4097 = omega arith in omega (arith, in_table.rises x y l i, price_at x (omega arith), price_at y h)
+
+length-table : length table ≡ 4097
+length-table = length-map-range_with_len price 0 4097
+
+-- what is found at a length: its price, or nothing where it is too long
+pub price_found : (y : ℕ) (r : Option (Bor ℕ)) → IsItemAt table y r → MatchOption (option_copied r) (4096 < y) (λ p. (y ≤ 4096) × (p ≡ price y))
+price_found y None h = omega (arith, h.3, length-table)
+price_found y (Some p) h = let l : y ≤ 4096 = omega (arith, h.3.0, length-table) in (l, h.4 (omega arith) 0 ∙ price_at y l)

@@ -2,9 +2,6 @@
 ghost use Rattle.std.specs.Prelude.{◌≡◌, ◌<◌, ◌≤◌, MatchOption};
 ghost use Rattle.houses.specs.Houses.{price};
 
-// The last length that has a price.
-const LONGEST: u32 = 4096;
-
 // An extent of y blocks takes y blocks of tape, and one more for each begun eight.
 const PRICES: [u32; 4097] = [
     0, 2, 3, 4, 5, 6, 7, 8, 9, 11, 12, 13, 14, 15, 16, 17, 18, 20, 21, 22, 23, 24, 25, 26, 27, 29,
@@ -260,8 +257,5 @@ const PRICES: [u32; 4097] = [
 pub fn price(y: u32) -> Option<u32>
     ensures { MatchOption result (4096 < y) (λ p. (y ≤ 4096) × (p ≡ price y)) }
 {
-    if y > LONGEST {
-        return None;
-    }
-    Some(PRICES[y as usize])
+    PRICES.get(y as usize).copied()
 }

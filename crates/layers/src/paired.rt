@@ -46,6 +46,7 @@ impl<A: Source<Kind = i64>, B: Source<Kind = i64>> Source for Paired<A, B> {
 impl<A: Vouching + Source<Kind = i64>, B: Vouching + Source<Kind = i64>> Vouching for Paired<A, B> {
     ghost vouched = { λ s. max (A.Vouching.vouched s.one) (B.Vouching.vouched s.two) };
 
+    #[tactic(auto, using(crate::proofs::Layers::paired_sound))]
     fn bound(&self) -> u64 {
         self.one.bound().max(self.two.bound())
     }

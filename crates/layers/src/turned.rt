@@ -33,17 +33,14 @@ impl<S: Source> Source for Turned<S> {
 
     fn cost(&self, x: u32, y: u32) -> Option<S::Kind> {
         let last = self.end();
-        if x <= y && y <= last {
-            self.below.cost(last - y, last - x)
-        } else {
-            None
-        }
+        self.below.cost(last.checked_sub(y)?, last.checked_sub(x)?)
     }
 }
 
 impl<S: Vouching> Vouching for Turned<S> {
     ghost vouched = { λ s. S.Vouching.vouched s.below };
 
+    #[tactic(auto, using(crate::proofs::Layers::turned_sound))]
     fn bound(&self) -> u64 {
         self.below.bound()
     }

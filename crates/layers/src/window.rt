@@ -56,6 +56,7 @@ impl<S: Source> Source for Window<S> {
 impl<S: Vouching> Vouching for Window<S> {
     ghost vouched = { λ s. S.Vouching.vouched s.below };
 
+    #[tactic(auto, using(crate::proofs::Layers::window_sound))]
     fn bound(&self) -> u64 {
         self.below.bound()
     }

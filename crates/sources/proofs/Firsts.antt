@@ -1,7 +1,7 @@
 -- The first bad number and the first bad pair: when there is one, and what none says.
 use Rattle.std.proofs.Common.{◌≡◌, ℕ, zero, suc, ◌+◌, ◌<◌, ◌≤◌, Bool, true, false, Some, None, Option, sym, refl, ap, ◌∙◌, ⊎_elim, arith}
 use Rattle.std.proofs.lemmas.Bool.{cases_eq, cases_Bool, cond-true, cond-false}
-use Rattle.sources.specs.Squares.{first_in, or_later, first_pair, FirstBadPair}
+use Rattle.sources.specs.Squares.{FindsFirst, FindsFirstPair, first_in, or_later, first_pair, FirstBadPair}
 
 module _ (bad : ℕ → Bool) where
   none_from : (k x : ℕ) → ((i : ℕ) → x ≤ i → i < x + k → bad i ≡ false) → first_in bad k x ≡ None
@@ -118,3 +118,24 @@ module _ (bad : ℕ → ℕ → Bool) (width : ℕ → ℕ) where
   -- where there is no pair, nothing is bad
   pub clean_pairs : (k : ℕ) → first_pair bad width k 0 ≡ None → (x y : ℕ) → y < k → x < width y → bad x y ≡ false
   clean_pairs k e x y h l = clean (λ v. bad v y) (width y) (rows_clean k 0 e y (omega arith) (omega arith)) x l
+
+-- a search whose test passes at the bad pairs, and at no others, answers the first
+pub found : (bad : ℕ → ℕ → Bool) (width : ℕ → ℕ) (k last : ℕ) (Test : ℕ → ℕ → Bool → Type 0) (o : Option (ℕ × ℕ)) → FindsFirstPair Test last o
+    → ((y : ℕ) → y < k → y ≤ last)
+    → ((x y : ℕ) → y < k → x < width y → x ≤ y)
+    → ((x y : ℕ) → x ≤ y → y ≤ last → Test x y true → (y < k) × (x < width y) × (bad x y ≡ true))
+    → ((x y : ℕ) → y < k → x < width y → Test x y false → bad x y ≡ false)
+    → o ≡ first_pair bad width k 0
+found bad width k last Test o f rows inside passes fails = by o refl
+  where
+    good_row : (y : ℕ) → y < k → FindsFirst (λ x. Test x y) y None → in_row bad width y ≡ None
+    good_row y h g = none (λ x. bad x y) (width y) (λ x m. fails x y h m (g x (inside x y h m)))
+
+    by : (r : Option (ℕ × ℕ)) → o ≡ r → o ≡ first_pair bad width k 0
+    by None e = e ∙ sym (no_pair bad width k (λ y h. good_row y h (f.none e y (rows y h))))
+    by (Some (x, y)) e =
+        let g = f.some x y e in
+        let p = passes x y g.1.0 g.0 g.1.1 in
+        e ∙ sym (pair bad width k y x p.0
+        (some (λ v. bad v y) (width y) x p.1 p.2 (λ v h. fails v y p.0 (omega arith) (g.1.2 v h)))
+        (λ w h. good_row w (omega arith) (g.2 w h)))

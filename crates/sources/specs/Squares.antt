@@ -1,5 +1,5 @@
 -- Glebov's condition, square by square, and the first cost or square of a scale that fails a test.
-use Rattle.std.specs.Prelude.{◌≡◌, ℕ, zero, suc, ◌+◌, ◌<◌, Bool, true, false, cond, not, T, Some, None, Option, nat_lt}
+use Rattle.std.specs.Prelude.{◌≡◌, ℕ, zero, suc, ◌+◌, ◌<◌, ◌≤◌, Bool, true, false, cond, not, T, Some, None, Option, nat_lt}
 use Rattle.costs.specs.Costs.{Costs}
 use Rattle.costs.specs.Limits.{largest}
 use Rattle.sources.specs.Scales.{Scale, Sized, Glebov}
@@ -30,6 +30,16 @@ or_later None y later = later
 abbrev pub first_pair : (ℕ → ℕ → Bool) → (ℕ → ℕ) → ℕ → ℕ → Option (ℕ × ℕ)
 first_pair bad width zero y = None
 first_pair bad width (suc k) y = or_later (first_in (λ x. bad x y) (width y) 0) y (first_pair bad width k (suc y))
+
+-- what a search of the numbers from 0 to last answers: the first bad one, or none where none is bad; `Test x b` says that the test of x may answer b, true where x is bad
+abbrev pub FindsFirst : (ℕ → Bool → Type 0) → ℕ → Option ℕ → Type 0
+FindsFirst Test last None = (x : ℕ) → x ≤ last → Test x false
+FindsFirst Test last (Some x) = (x ≤ last) × Test x true × ((v : ℕ) → v < x → Test v false)
+
+-- the same of the pairs (x, y) with x ≤ y ≤ last: the smallest y, and then the smallest x
+pub record FindsFirstPair (Test : ℕ → ℕ → Bool → Type 0) (last : ℕ) (o : Option (ℕ × ℕ)) : Type 0 where
+  pub none : o ≡ None → (y : ℕ) → y ≤ last → FindsFirst (λ x. Test x y) y None
+  pub some : (x y : ℕ) → o ≡ Some (x, y) → (y ≤ last) × FindsFirst (λ v. Test v y) y (Some x) × ((w : ℕ) → w < y → FindsFirst (λ v. Test v w) w None)
 
 -- is the cost from x to y above the largest
 abbrev pub too_large : (K : Costs) → Scale K → ℕ → ℕ → Bool

@@ -96,11 +96,8 @@ impl Source for Table {
         self.last
     }
 
+    #[tactic(auto, using(crate::proofs::Tables::index_within))]
     fn cost(&self, x: u32, y: u32) -> Option<i64> {
-        if x <= y && y <= self.end() {
-            Some(i64::from(self.entries[index_of(x, y)]))
-        } else {
-            None
-        }
+        (x <= y && y <= self.last).then(|| i64::from(self.entries[index_of(x, y)]))
     }
 }
