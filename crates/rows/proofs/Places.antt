@@ -1,28 +1,28 @@
 -- The places kept for the numbers of a row.
-use Rattle.std.proofs.Common.{◌≡◌, ℕ, ◌-◌, ◌<◌, ◌≤◌, List, length, get_or, set, sym, ◌∙◌, ⊎_elim, arith}
-use Rattle.std.proofs.lemmas.List.{get_or-set_same, get_or-set_other}
-use Rattle.std.proofs.lemmas.Bool.{cond-true, cond-false, eq-eqb, ne_eqb, le-leb, lt-leb, cases_lt}
+use Rattle.std.proofs.Common.{◌≡◌, ℕ, ◌+◌, ◌-◌, ◌<◌, List, length, get_or, set, sym, ap, ◌∙◌, ⊎_elim, arith}
+use Rattle.std.proofs.lemmas.List.{get_or-set_same, get_or-set_other, get_or_past}
+use Rattle.std.proofs.lemmas.Bool.{cond-true, cond-false, eq-eqb, ne_eqb, cases_lt}
 use Rattle.rows.specs.Filled.{kept_for}
 
-module _ (a b q : ℕ) where
-  pub kept_zero : (ps : List ℕ) (m : ℕ) → m ≡ 0 → kept_for a b q ps m ≡ a
+module _ (a b : ℕ) where
+  pub kept_zero : (ps : List ℕ) (m : ℕ) → m ≡ 0 → kept_for a b ps m ≡ a
   kept_zero ps m e = cond-true _ _ _ (eq-eqb m 0 e)
 
-  pub kept_at : (ps : List ℕ) (m : ℕ) → 0 < m → m ≤ q → kept_for a b q ps m ≡ get_or ps (m - 1) 0
-  kept_at ps m h l = cond-false _ a _ (ne_eqb m 0 (omega arith)) ∙ cond-true _ _ b (le-leb m q l)
+  kept_at : (ps : List ℕ) (m : ℕ) → 0 < m → kept_for a b ps m ≡ get_or ps (m - 1) b
+  kept_at ps m h = cond-false _ a _ (ne_eqb m 0 (omega arith))
 
-  pub kept_absent : (ps : List ℕ) (m : ℕ) → q < m → kept_for a b q ps m ≡ b
-  kept_absent ps m h = cond-false _ a _ (ne_eqb m 0 (omega arith)) ∙ cond-false _ (get_or ps (m - 1) 0) b (lt-leb m q h)
+  pub kept_absent : (ps : List ℕ) (m : ℕ) → length ps < m → kept_for a b ps m ≡ b
+  kept_absent ps m h = kept_at ps m (omega arith) ∙ get_or_past ps (m - 1) b (omega arith)
 
-  pub kept_set_same : (ps : List ℕ) (m v : ℕ) → 0 < m → m ≤ q → q ≤ length ps → kept_for a b q (set ps (m - 1) v) m ≡ v
-  kept_set_same ps m v h l f = kept_at (set ps (m - 1) v) m h l ∙ get_or-set_same ps (m - 1) v 0 (omega arith)
+  -- where the place v is kept for the number i + 1
+  pub kept_set_same : (ps : List ℕ) (i m v : ℕ) → i + 1 ≡ m → i < length ps → kept_for a b (set ps i v) m ≡ v
+  kept_set_same ps i m v e h =
+      let f : m - 1 ≡ i = omega arith in
+      kept_at (set ps i v) m (omega arith) ∙ ap (λ z. get_or (set ps i v) z b) f ∙ get_or-set_same ps i v b h
 
-  pub kept_set_other : (ps : List ℕ) (m n v : ℕ) → 0 < m → (n ≡ m → ⊥) → kept_for a b q (set ps (m - 1) v) n ≡ kept_for a b q ps n
-  kept_set_other ps m n v h ne =
+  pub kept_set_other : (ps : List ℕ) (i m v : ℕ) → (m ≡ i + 1 → ⊥) → kept_for a b (set ps i v) m ≡ kept_for a b ps m
+  kept_set_other ps i m v ne =
       ⊎_elim
-      (λ z. kept_zero _ n (omega arith) ∙ sym (kept_zero ps n (omega arith)))
-      (λ p. ⊎_elim
-      (λ l. kept_absent _ n l ∙ sym (kept_absent ps n l))
-      (λ l. kept_at _ n p l ∙ get_or-set_other ps (m - 1) (n - 1) v 0 (omega arith) ∙ sym (kept_at ps n p l))
-      (cases_lt q n))
-      (cases_lt n 1)
+      (λ z. kept_zero _ m (omega arith) ∙ sym (kept_zero ps m (omega arith)))
+      (λ p. kept_at _ m p ∙ get_or-set_other ps i (m - 1) v b (omega arith) ∙ sym (kept_at ps m p))
+      (cases_lt m 1)

@@ -1,24 +1,20 @@
--- The table of the powers of two, looked through from its first entry on.
-use Rattle.std.proofs.Common.{◌≡◌, ℕ, zero, suc, ◌+◌, ◌-◌, ◌^◌, ◌<◌, ◌≤◌, map, get_or, sym, ap, ◌∙◌, zero-add, arith}
+-- The table of the powers of two, and how many of them are not above a number.
+use Rattle.std.proofs.Common.{◌≡◌, ℕ, suc, ◌+◌, ◌*◌, ◌^◌, ◌<◌, ◌≤◌, List, map, get_or, zero-add, arith}
+use native.Mathlib.Nat.{pow-succ'}
 use Rattle.std.specs.List.{range_with_len}
 use Rattle.std.proofs.lemmas.List.FromFn.{get_or-map-range_with_len}
-use Rattle.std.proofs.lemmas.Bool.{cond-true, cond-false, le-leb, lt-leb}
 use Rattle.plans.specs.Steps.{log2}
+use Rattle.plans.proofs.Logs.{log2_is, powers_order}
 
--- entry i is 2 ^ i
-pub power_at : (i : ℕ) → i < 13 → get_or (map (λ j. 2 ^ j) (range_with_len 0 13)) i 0 ≡ 2 ^ i
-power_at i h = get_or-map-range_with_len (λ j. 2 ^ j) 0 13 i i 0 h (zero-add i)
+-- the first n powers
+abbrev pub powers : ℕ → List ℕ
+powers n = map (λ j. 2 ^ j) (range_with_len 0 n)
 
--- the largest power not above q among the first f + 1 entries has the exponent log2 f q
-pub top_taken : (q i power : ℕ) → power ≡ 2 ^ i → power ≤ q → power ≡ 2 ^ log2 (i + 1 - 1) q
-top_taken q zero power e h = e
-top_taken q (suc j) power e h =
-    let same : suc j + 1 - 1 ≡ suc j = omega arith in
-    e ∙ ap (λ z. 2 ^ z) (sym (cond-true _ (suc j) (log2 j q) (le-leb (2 ^ suc j) q (omega arith)))) ∙ ap (λ z. 2 ^ log2 z q) (sym same)
+pub power_at : (n i : ℕ) → i < n → get_or (powers n) i 0 ≡ 2 ^ i
+power_at n i h = get_or-map-range_with_len (λ j. 2 ^ j) 0 n i i 0 h (zero-add i)
 
-pub top_left : (q i power top : ℕ) → power ≡ 2 ^ i → q < power → top ≡ 2 ^ log2 (i - 1) q → top ≡ 2 ^ log2 (i + 1 - 1) q
-top_left q zero power top e h before = before
-top_left q (suc j) power top e h before =
-    let same : suc j + 1 - 1 ≡ suc j = omega arith in
-    let one_less : suc j - 1 ≡ j = omega arith in
-    before ∙ ap (λ z. 2 ^ log2 z q) one_less ∙ ap (λ z. 2 ^ z) (sym (cond-false _ (suc j) (log2 j q) (lt-leb (2 ^ suc j) q (omega arith)))) ∙ ap (λ z. 2 ^ log2 z q) (sym same)
+-- the largest power not above q has the logarithm as its exponent
+pub count_is : (f q r : ℕ) → 2 ^ r ≤ q → q < 2 * 2 ^ r → q < 2 ^ suc f → r + 1 ≡ suc (log2 f q)
+count_is f q r low high within =
+    let above : q < 2 ^ suc r = omega (arith, pow-succ' 2 r) in
+    omega (arith, log2_is f q r (powers_order r f q low within) low above)

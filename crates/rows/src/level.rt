@@ -1,51 +1,39 @@
 // One level of the work that fills a row.
-ghost use Rattle.std.specs.Prelude.{◌≡◌, ◌+◌, ◌-◌, ◌*◌, ◌<◌, ◌≤◌, map, length, MatchOption};
-ghost use Rattle.sources.specs.Meant.{meant};
-ghost use Rattle.rows.specs.Filled.{row_at, kept_for, table, Worked, Level, Kept};
+ghost use Rattle.std.specs.Prelude.{◌≡◌, ◌*◌, ◌<◌, ◌≤◌, length};
 
-use crate::least::find_least;
+use crate::above::Above;
 use sources::Source;
 
-// The place kept for the number `m` of `q`, where the row above goes from place `a` to place `b`.
-fn found_at(places: &[u32; 4097], a: u32, b: u32, q: usize, m: usize) -> u32
-    requires { q ≤ 4097 }
-    ensures { result ≡ kept_for a b q places.now m }
-{
-    if m == 0 {
-        a
-    } else if m <= q {
-        places[m - 1]
-    } else {
-        b
-    }
-}
+impl<S: Source> Above<'_, S> {
+    ghost use Rattle.rows.specs.Filled.{kept_for, Room, MultiplesWorked, LevelWorked};
 
-// Works the odd multiples of `d` and returns the reads. The cells begin with the row above, from place `a` to place `b`, and go on with the `q` cells of the row.
-pub fn fill_level<S: Source>(
-    source: &S,
-    cells: &mut [S::Kind],
-    a: u32,
-    b: u32,
-    q: usize,
-    places: &mut [u32; 4097],
-    d: usize,
-) -> Option<u64>
-    requires fits { (a ≤ b) × (q ≤ 4097) × (b - a + 1 + q ≤ length cells.old) × (b + q ≤ S.Source.last source.now + 1) × (b ≤ 4096) }
-    requires step { (0 < d) × (d ≤ q) }
-    requires worked { Worked S.Kind.Kind.costs (meant S.Kind.Kind S.Source source.now) (row_at S.Kind.Kind a b cells.old) q (b - a + 1) (2 * d) (table a b q places.old (2 * d)) (map S.Kind.Kind.means cells.old) }
-    ensures { MatchOption result ⊥ (λ reads. Level S.Kind.Kind.costs (meant S.Kind.Kind S.Source source.now) (row_at S.Kind.Kind a b cells.old) q (b - a + 1) d places.old places.new (map S.Kind.Kind.means cells.new) reads × Kept (b - a + 1) q cells.old cells.new) }
-{
-    let wide = (b - a) as usize + 1;
-    let mut reads = 0;
-    let mut m = d;
-    while m <= q {
-        let lo = found_at(places, a, b, q, m - d);
-        let hi = found_at(places, a, b, q, m + d);
-        let found = find_least(source, &cells[0..wide], a, lo, hi, b + (m - 1) as u32)?;
-        places[m - 1] = found.place;
-        cells[wide + m - 1] = found.cost;
-        reads += found.reads;
-        m += 2 * d;
+    // The place kept for the number `m`: for 0 the first place of the row above, and for a number past the places its last.
+    fn kept_place(&self, places: &[u32], m: usize) -> u32
+        ensures { result ≡ kept_for self.now.from self.now.to places.now m }
+    {
+        match m.checked_sub(1) {
+            None => self.from,
+            Some(index) => places.get(index).copied().unwrap_or(self.to),
+        }
     }
-    Some(reads)
+
+    // Works the odd multiples of `d` among the numbers of a row behind this one, counted from 1, and returns the reads.
+    // The cells are the caller's, so the places that were found lie apart.
+    pub(crate) fn fill_level(&self, d: usize, places: &mut [u32], cells: &mut [S::Kind]) -> u64
+        requires room { Room self.now places.old cells.old }
+        requires step { (0 < d) × (d ≤ length cells.old) }
+        requires worked { MultiplesWorked self.now (2 * d) places.old cells.old }
+        ensures { LevelWorked self.now (length cells.old) d places.old places.new cells.new result }
+    {
+        let mut reads = 0;
+        for i in (d - 1..cells.len()).step_by(2 * d) {
+            let lo = self.kept_place(places, i + 1 - d);
+            let hi = self.kept_place(places, i + 1 + d);
+            let found = self.find_least(lo, hi, self.to + i as u32);
+            places[i] = found.place;
+            cells[i] = found.cost;
+            reads += found.reads;
+        }
+        reads
+    }
 }

@@ -1,10 +1,9 @@
 // Rows (inner): fills one row of a step from the row above it. Its functions ask that places and cells fit; only `steps` may use it.
 #![tactic(auto)]
 
-mod least;
+mod above;
 mod level;
 mod powers;
 mod row;
 
-pub use least::{Found, find_least};
-pub use row::fill_behind;
+pub use above::{Above, Found, class_cost};

@@ -1,46 +1,32 @@
-// One row of a step, from the row above it.
-ghost use Rattle.std.specs.Prelude.{◌≡◌, ◌+◌, ◌-◌, ◌≤◌, length, take, drop, MatchOption};
-ghost use Rattle.sources.specs.Meant.{meant};
-ghost use Rattle.rows.specs.Filled.{Filled};
+// A whole row, from the row above it.
+ghost use Rattle.std.specs.Prelude.{◌+◌, ◌-◌, ◌≤◌, map, length};
 
-use crate::level::fill_level;
-use crate::powers::top_power;
+use crate::above::Above;
+use crate::powers::{POWERS, power_count};
 use sources::Source;
 
-// Fills the row from place `b` to place `c` and returns the reads. The cells begin with the row above, from place `a` to place `b`.
-fn fill_row<S: Source>(
-    source: &S,
-    cells: &mut [S::Kind],
-    a: u32,
-    b: u32,
-    c: u32,
-    places: &mut [u32; 4097],
-) -> Option<u64>
-    requires { (a ≤ b) × (b ≤ c) × (c ≤ S.Source.last source.now) × (c ≤ 4096) × (b - a + 1 + (c - b + 1) ≤ length cells.old) }
-    ensures { MatchOption result ⊥ (λ reads. Filled S.Kind.Kind (meant S.Kind.Kind S.Source source.now) a b c cells.old cells.new reads) }
-{
-    let q = (c - b) as usize + 1;
-    let mut d = top_power(q);
-    let mut reads = 0;
-    while d > 0 {
-        reads += fill_level(source, cells, a, b, q, places, d)?;
-        d /= 2;
-    }
-    Some(reads)
-}
+impl<S: Source> Above<'_, S> {
+    ghost use Rattle.rows.specs.Rows.{row_of, scale_of};
+    ghost use Rattle.rows.specs.Filled.{Room, Costed, Filled};
 
-// The same where the row above begins at the cell `at`.
-pub fn fill_behind<S: Source>(
-    source: &S,
-    cells: &mut [S::Kind],
-    at: usize,
-    a: u32,
-    b: u32,
-    c: u32,
-    places: &mut [u32; 4097],
-) -> Option<u64>
-    requires { (a ≤ b) × (b ≤ c) × (c ≤ S.Source.last source.now) × (c ≤ 4096) × (at + (b - a + 1) + (c - b + 1) ≤ length cells.old) }
-    ensures { MatchOption result ⊥ (λ reads. Filled S.Kind.Kind (meant S.Kind.Kind S.Source source.now) a b c (drop at cells.old) (drop at cells.new) reads × (take at cells.new ≡ take at cells.old)) }
-{
-    fill_row(source, &mut cells[at..], a, b, c, places)
+    // Fills the cells of a row behind this one, level by level, and returns the reads. What the places hold before is not read.
+    fn fill_row(&self, places: &mut [u32], cells: &mut [S::Kind]) -> u64
+        requires { Room self.now places.old cells.old }
+        ensures { Costed (scale_of self.now) (row_of self.now) (self.now.to + length cells.old - 1) (map S.Kind.Kind.means cells.new) result }
+    {
+        let mut reads = 0;
+        for n in (0..power_count(cells.len())).rev() {
+            reads += self.fill_level(POWERS[n], places, cells);
+        }
+        reads
+    }
+
+    // Fills the row from the last place of this one to the place `c` with the first of the cells, and returns the reads.
+    pub fn fill_behind(&self, c: u32, places: &mut [u32; 4097], cells: &mut [S::Kind]) -> u64
+        requires { (self.now.to ≤ c) × (c ≤ S.Source.last self.now.source.now) × (c ≤ 4096) × (c - self.now.to + 1 ≤ length cells.old) }
+        ensures { Filled S.Kind.Kind (scale_of self.now) (row_of self.now) c cells.old cells.new result }
+    {
+        let width = (c - self.to) as usize + 1;
+        self.fill_row(&mut places[..width], &mut cells[..width])
+    }
 }

@@ -1,21 +1,8 @@
 -- Place 0, the cuts of a plan and its end, one after another.
-use Rattle.std.proofs.Common.{◌≡◌, ℕ, zero, suc, ◌+◌, ◌-◌, ◌<◌, ◌≤◌, List, [], ◌∷◌, ◌++◌, length, get_or, take, sym, ap, ◌∙◌, arith}
-use Rattle.std.proofs.lemmas.List.{length-take-le, get_or_append_left, get_or-take, get_or_push}
+use Rattle.std.proofs.Common.{◌≡◌, ℕ, zero, suc, ◌+◌, ◌≤◌, List, [], ◌∷◌, ◌++◌, length, get_or, ap, arith}
 use Rattle.plans.specs.Plans.{Plan}
 use Rattle.plans.specs.Theorems.{fenced}
 use Rattle.plans.proofs.Plans.{plan_under}
-
--- the cuts in use of a row
-module _ (row : List ℕ) (used end : ℕ) where
-  pub fence_cut : (i : ℕ) → 0 < i → i ≤ used → used ≤ length row → get_or row (i - 1) 0 ≡ get_or (fenced (take used row) end) i 0
-  fence_cut zero h l m = absurd (omega arith)
-  fence_cut (suc j) h l m =
-      let e : suc j - 1 ≡ j = omega arith in
-      ap (λ z. get_or row z 0) e ∙ sym (get_or_append_left (take used row) (end ∷ []) 0 j (omega (arith, length-take-le used row m)) ∙ get_or-take used row j 0 (omega arith))
-
-  pub fence_end : (i : ℕ) → i ≡ used + 1 → used ≤ length row → end ≡ get_or (fenced (take used row) end) i 0
-  fence_end zero e m = absurd (omega arith)
-  fence_end (suc j) e m = sym (get_or_push (take used row) end 0 j (omega (arith, length-take-le used row m)))
 
 -- they never fall
 pub fences_rise : (x : ℕ) (xs : List ℕ) (e k : ℕ) → Plan x xs e → k ≤ length xs → get_or (x ∷ (xs ++ e ∷ [])) k 0 ≤ get_or (xs ++ e ∷ []) k 0
@@ -27,9 +14,6 @@ fences_rise x (m ∷ xs) e (suc k) p h = fences_rise m xs e k p.1 (omega arith)
 -- the next place of a fenced plan
 pub fence_next : (xs : List ℕ) (e i : ℕ) → get_or (fenced xs e) (i + 1) 0 ≡ get_or (xs ++ e ∷ []) i 0
 fence_next xs e i = let s : i + 1 ≡ suc i = omega arith in ap (λ z. get_or (fenced xs e) z 0) s
-
-pub fence_two : (xs : List ℕ) (e i : ℕ) → get_or (fenced xs e) (i + 2) 0 ≡ get_or (xs ++ e ∷ []) (i + 1) 0
-fence_two xs e i = let s : i + 2 ≡ suc (i + 1) = omega arith in ap (λ z. get_or (fenced xs e) z 0) s
 
 -- each is no later than the next, and none passes the end
 pub fence_order : (held : List ℕ) (end : ℕ) → Plan 0 held end → (i : ℕ) → i ≤ length held → (get_or (fenced held end) i 0 ≤ get_or (fenced held end) (i + 1) 0) × (get_or (fenced held end) (i + 1) 0 ≤ end)

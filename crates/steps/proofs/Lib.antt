@@ -1,4 +1,3 @@
-pub mod InUse
 pub mod Fences
 pub mod Laid
 pub mod Traces

@@ -1,5 +1,5 @@
 -- Whole steps: their reads are few, their cells lie over those that were lent, and one follows another.
-use Rattle.std.proofs.Common.{◌≡◌, ℕ, suc, ◌+◌, ◌*◌, ◌<◌, ◌≤◌, cond, eqb, List, ◌++◌, map, length, take, drop, sym, refl, ap, ◌∙◌, subst, mul-le-mul_left, arith}
+use Rattle.std.proofs.Common.{◌≡◌, ℕ, suc, ◌+◌, ◌*◌, ◌<◌, ◌≤◌, cond, eqb, List, [], ◌++◌, map, length, take, drop, sym, refl, ap, ◌∙◌, subst, mul-le-mul_left, arith}
 use Rattle.std.proofs.lemmas.List.{take-append-drop, map-append, drop-map}
 use Rattle.std.proofs.lemmas.Bool.{cond_both, cond-false, ne_eqb}
 use Rattle.costs.specs.Costs.{Costs}
@@ -12,7 +12,6 @@ use Rattle.plans.proofs.Bounds.{steps_read_little_lem}
 use Rattle.plans.proofs.Climbs.{climb_length, climb_plan}
 use Rattle.plans.proofs.Logs.{log2_low, log2_high, log2_most}
 use Rattle.steps.specs.declared.stepping.Stepped.{Stepped}
-use Rattle.steps.specs.Cuts.{in_use}
 use Rattle.steps.specs.Left.{StepLeft, ClimbLeft}
 use Rattle.steps.proofs.Laid.{agree_behind}
 
@@ -36,14 +35,14 @@ module _ {V : Type 0} (k : kind.Ghosts V) (s : Scale k.costs) (end : ℕ) (old :
     pub left : ClimbLeft k s end n old vs r
     pub few : r.reads ≤ 1 + n * 62000
 
-  pub climbed_first : (r : Stepped V) → r.cuts.used ≡ 0 → k.means r.total ≡ s.cost 0 end → r.reads ≡ 1 → Climbed 0 old r
+  pub climbed_first : (r : Stepped V) → r.cuts ≡ [] → k.means r.total ≡ s.cost 0 end → r.reads ≡ 1 → Climbed 0 old r
   climbed_first r none total reads = record {
-    left = record { cuts = ap (λ z. take z r.cuts.row) none; used = none; total = total; reads = reads; cells = refl; kept = refl };
+    left = record { cuts = none; number = ap length none; total = total; reads = reads; cells = refl; kept = refl };
     few = omega arith;
   }
 
 module _ {V : Type 0} {k : kind.Ghosts V} {s : Scale k.costs} {end : ℕ} {old : List V} {n : ℕ} {vs : List V} {r : Stepped V} (before : Climbed k s end old n vs r) where
-  pub climbed_plan : Plan 0 (in_use r.cuts) end
+  pub climbed_plan : Plan 0 r.cuts end
   climbed_plan = subst (λ xs. Plan 0 xs end) (sym before.left.cuts) (climb_plan k.costs s end (map k.means old) n)
 
   left_more : {vs' : List V} {t : Stepped V} → StepLeft k s r.cuts end vs vs' t → ClimbLeft k s end (suc n) old vs' (record { cuts = t.cuts; total = t.total; reads = r.reads + t.reads })
@@ -51,13 +50,13 @@ module _ {V : Type 0} {k : kind.Ghosts V} {s : Scale k.costs} {end : ℕ} {old :
       let K = k.costs in
       let was = climb K s end n (map k.means old) in
       let cuts = before.left.cuts in
-      let used = before.left.used in
-      let N = end + r.cuts.used + 1 in
+      let number = before.left.number in
+      let N = end + length r.cuts + 1 in
       let filled : cond (eqb n 0) 0 (end + n) ≤ N = cond_both (eqb n 0) 0 (end + n) (λ z. z ≤ N) (λ _. omega arith) (λ _. omega arith) in
       let N-is : N ≡ cond (eqb (suc n) 0) 0 (end + suc n) = (let e : N ≡ end + suc n = omega arith in e) ∙ sym (cond-false (eqb (suc n) 0) 0 (end + suc n) (ne_eqb (suc n) 0 (omega arith))) in
       record {
         cuts = did.cuts ∙ ap (λ xs. (step K s xs end).cuts) cuts;
-        used = omega (arith, did.used);
+        number = omega (arith, did.number, number);
         total = did.total ∙ ap (λ xs. (step K s xs end).total) cuts;
         reads = omega (arith, did.reads, before.left.reads, ap (λ xs. (step K s xs end).reads) cuts);
         cells = did.cells ∙ ap (λ xs. over (step K s xs end).cells (map k.means vs)) cuts ∙ ap (over (step K s was.cuts end).cells) before.left.cells;
@@ -66,8 +65,8 @@ module _ {V : Type 0} {k : kind.Ghosts V} {s : Scale k.costs} {end : ℕ} {old :
 
   pub climbed_reads : {vs' : List V} {t : Stepped V} → end ≤ longest → n < most_cuts → StepLeft k s r.cuts end vs vs' t → r.reads + t.reads ≤ 1 + suc n * 62000
   climbed_reads short less did =
-      let held : length (in_use r.cuts) ≡ n = ap length before.left.cuts ∙ climb_length k.costs s end (map k.means old) n in
-      omega (arith, did.reads, before.few, step_few k.costs s (in_use r.cuts) end climbed_plan short (omega arith))
+      let held : length r.cuts ≡ n = ap length before.left.cuts ∙ climb_length k.costs s end (map k.means old) n in
+      omega (arith, did.reads, before.few, step_few k.costs s r.cuts end climbed_plan short (omega arith))
 
   pub climbed_more : {vs' : List V} {t : Stepped V} → end ≤ longest → n < most_cuts → StepLeft k s r.cuts end vs vs' t → Climbed k s end old (n + 1) vs' (record { cuts = t.cuts; total = t.total; reads = r.reads + t.reads })
   climbed_more {vs'} {t} short less did =

@@ -1,6 +1,6 @@
 -- The trace through the rows of a step, from the last row to the first.
-use Rattle.std.proofs.Common.{◌≡◌, ℕ, suc, ◌+◌, ◌-◌, ◌<◌, ◌≤◌, List, [], ◌∷◌, ◌++◌, map, length, get_or, take, drop, set, sym, refl, ap, ◌∙◌, subst, arith}
-use Rattle.std.proofs.lemmas.List.{append_assoc, take-append-drop, take_at, drop_at, drop-drop, drop_more, drop_all, drop-set, length_push, take-map, drop-map}
+use Rattle.std.proofs.Common.{◌≡◌, ℕ, ◌+◌, ◌-◌, ◌<◌, ◌≤◌, List, [], ◌∷◌, ◌++◌, map, length, get_or, take, drop, set, sym, refl, ap, ◌∙◌, subst, arith}
+use Rattle.std.proofs.lemmas.List.{append_assoc, take-append-drop, take_at, drop_at, drop-drop, drop_more, drop_all, drop-set, length-set, length_push, take-map, drop-map}
 use Rattle.costs.specs.Costs.{Costs}
 use Rattle.costs.specs.declared.kind.Kind as kind
 use Rattle.sources.specs.Scales.{Scale}
@@ -9,9 +9,7 @@ use Rattle.plans.specs.Steps.{Row, via, earliest, next, first_row, rows_behind, 
 use Rattle.plans.specs.Theorems.{fenced}
 use Rattle.plans.proofs.Earliest.{earliest_within}
 use Rattle.plans.proofs.Shapes.{length-first, length-next}
-use Rattle.steps.specs.declared.cuts.Cuts.{Cuts}
-use Rattle.rows.specs.Filled.{Least}
-use Rattle.steps.specs.Cuts.{in_use}
+use Rattle.rows.specs.Rows.{Least}
 use Rattle.steps.specs.Left.{row_in}
 use Rattle.steps.proofs.Fences.{fence_next, fence_order}
 
@@ -68,7 +66,8 @@ module _ (K : Costs) (s : Scale K) (held : List ℕ) (end : ℕ) (cs : List K.Co
   -- what the trace holds when the rows from row i on are behind it
   pub record Tracing (cuts : List ℕ) (i to reads : ℕ) (total : K.Cost) : Type 0 where
     pub place : to ≡ head_or end (traced K s (from_row i) end)
-    pub found : take (length held + 1 - i) (drop i cuts) ≡ traced K s (from_row i) end
+    pub room : length cuts ≡ length held + 1
+    pub found : drop i cuts ≡ traced K s (from_row i) end
     pub cost : total ≡ reached K s (from_row i) end
     pub read : reads ≡ traced_reads (from_row i)
     pub few : reads + fence i ≤ end + (length held + 1 - i)
@@ -86,7 +85,7 @@ module _ (K : Costs) (s : Scale K) (held : List ℕ) (end : ℕ) (cs : List K.Co
         ∙ ap (λ zs. row i ∷ cut (fence (i + 1)) (drop (i + 1) (held ++ end ∷ [])) zs) (drop-drop (fence (i + 1) - fence i + 1) (fence i + i) cs ∙ ap (λ z. drop z cs) at)
 
     -- one row more, on the way to the place `to`
-    module _ (cuts : List ℕ) {i to at n : ℕ} {v : K.Cost} (h : i ≤ length held) (room : length held < length cuts) (l : Least K s (row i) (fence i) (fence (i + 1)) to at v n) (y : to ≡ head_or end (traced K s (from_row (i + 1)) end)) where
+    module _ {i to at n : ℕ} {v : K.Cost} (h : i ≤ length held) (l : Least K s (row i) (fence i) (fence (i + 1)) to at v n) (y : to ≡ head_or end (traced K s (from_row (i + 1)) end)) where
       traced_is : traced K s (from_row i) end ≡ at ∷ traced K s (from_row (i + 1)) end
       traced_is =
           let at-is : at ≡ earliest K.le (via K s (row i) (head_or end (traced K s (from_row (i + 1)) end))) (fence i) (fence (i + 1) - fence i) =
@@ -99,55 +98,47 @@ module _ (K : Costs) (s : Scale K) (held : List ℕ) (end : ℕ) (cs : List K.Co
       lies : (fence i ≤ at) × (at ≤ fence (i + 1))
       lies = let w = earliest_within K.le (via K s (row i) to) (fence i) (fence (i + 1) - fence i) in omega (arith, w, l.place, fence_order held end plan i h)
 
-      written : take (length held - i) (drop (i + 1) cuts) ≡ traced K s (from_row (i + 1)) end → take (length held + 1 - i) (drop i (set cuts i at)) ≡ traced K s (from_row i) end
-      written e =
-          let z : length held + 1 - i ≡ suc (length held - i) = omega arith in
-          ap (take (length held + 1 - i)) (drop-set cuts i at (omega arith)) ∙ ap (λ m. take m (at ∷ drop (i + 1) cuts)) z ∙ ap (λ zs. at ∷ zs) e ∙ sym traced_is
-
       counted : traced_reads (from_row i) ≡ n + traced_reads (from_row (i + 1))
       counted = ap traced_reads (row_first i h) ∙ ap (λ z. z + traced_reads (from_row (i + 1))) (sym l.reads)
 
     -- the last row
-    pub tracing_first : (cuts : List ℕ) {i at n : ℕ} {v : K.Cost} → i ≡ length held → length held < length cuts → Least K s (row i) (fence i) (fence (i + 1)) end at v n → Tracing (set cuts i at) i at n v
-    tracing_first cuts {i} {at} {n} {v} e room l =
+    pub tracing_first : {i at n : ℕ} {v : K.Cost} → i ≡ length held → Least K s (row i) (fence i) (fence (i + 1)) end at v n → Tracing (held ++ at ∷ []) i at n v
+    tracing_first {i} {at} {n} {v} e l =
         let h : i ≤ length held = omega arith in
         let none : from_row (i + 1) ≡ [] = ap (λ zs. cut (fence (i + 1)) zs (drop (fence (i + 1) + (i + 1)) cs)) (drop_all (i + 1) (held ++ end ∷ []) (omega (arith, length_push held end))) in
         let y : end ≡ head_or end (traced K s (from_row (i + 1)) end) = sym (ap (λ rs. head_or end (traced K s rs end)) none) in
-        let zero_left : length held - i ≡ 0 = omega arith in
         let alone : from_row i ≡ row i ∷ [] = row_first i h ∙ ap (λ rs. row i ∷ rs) none in
-        let in_row = lies cuts h room l y in
         record {
-          place = place_is cuts h room l y;
-          found = written cuts h room l y (ap (λ m. take m (drop (i + 1) cuts)) zero_left ∙ sym (ap (λ rs. traced K s rs end) none));
+          place = place_is h l y;
+          room = length_push held at;
+          found = drop_at held (at ∷ []) i (sym e) ∙ sym (traced_is h l y ∙ ap (λ rs. at ∷ traced K s rs end) none);
           cost = l.value ∙ ap (via K s (row i) end) l.place ∙ sym (ap (λ rs. reached K s rs end) alone);
-          read = omega (arith, counted cuts h room l y, ap traced_reads none);
+          read = omega (arith, counted h l y, ap traced_reads none);
           few = omega (arith, l.reads, fence_order held end plan i h);
-          from = in_row.0;
-          within = omega (arith, fence_order held end plan i h);
+          from = (lies h l y).0;
+          within = omega (arith, lies h l y, fence_order held end plan i h);
         }
 
     -- and each one before it
-    pub tracing_more : {cuts : List ℕ} {i j to reads at n : ℕ} {total v : K.Cost} → j ≡ i + 1 → i < length held → length held < length cuts → Tracing cuts j to reads total → Least K s (row i) (fence i) (fence (i + 1)) to at v n → Tracing (set cuts i at) i at (reads + n) total
-    tracing_more {cuts} {i} {j} {to} {reads} {at} {n} {total} {v} j-is less room before l =
+    pub tracing_more : {cuts : List ℕ} {i j to reads at n : ℕ} {total v : K.Cost} → j ≡ i + 1 → i < length held → Tracing cuts j to reads total → Least K s (row i) (fence i) (fence (i + 1)) to at v n → Tracing (set cuts i at) i at (reads + n) total
+    tracing_more {cuts} {i} {j} {to} {reads} {at} {n} {total} {v} j-is less before l =
         let t : Tracing cuts (i + 1) to reads total = subst (λ z. Tracing cuts z to reads total) j-is before in
         let h : i ≤ length held = omega arith in
-        let h' : i + 1 ≤ length held = omega arith in
-        let left : length held - i ≡ length held + 1 - (i + 1) = omega arith in
-        let in_row = lies cuts h room l t.place in
-        let two : from_row i ≡ row i ∷ row (i + 1) ∷ from_row (i + 1 + 1) = row_first i h ∙ ap (λ rs. row i ∷ rs) (row_first (i + 1) h') in
+        let two : from_row i ≡ row i ∷ row (i + 1) ∷ from_row (i + 1 + 1) = row_first i h ∙ ap (λ rs. row i ∷ rs) (row_first (i + 1) (omega arith)) in
         record {
-          place = place_is cuts h room l t.place;
-          found = written cuts h room l t.place (ap (λ m. take m (drop (i + 1) cuts)) left ∙ t.found);
-          cost = t.cost ∙ ap (λ rs. reached K s rs end) (row_first (i + 1) h') ∙ sym (ap (λ rs. reached K s rs end) two);
-          read = omega (arith, counted cuts h room l t.place, t.read);
+          place = place_is h l t.place;
+          room = length-set cuts i at ∙ t.room;
+          found = drop-set cuts i at (omega (arith, t.room)) ∙ ap (λ zs. at ∷ zs) t.found ∙ sym (traced_is h l t.place);
+          cost = t.cost ∙ ap (λ rs. reached K s rs end) (row_first (i + 1) (omega arith)) ∙ sym (ap (λ rs. reached K s rs end) two);
+          read = omega (arith, counted h l t.place, t.read);
           few = omega (arith, t.few, l.reads, fence_order held end plan i h);
-          from = in_row.0;
-          within = omega (arith, fence_order held end plan i h);
+          from = (lies h l t.place).0;
+          within = omega (arith, lies h l t.place, fence_order held end plan i h);
         }
 
 -- row i of a step, in the values and in their costs
-pub row_is : {V : Type 0} (k : kind.Ghosts V) (s : Scale k.costs) (held : Cuts) (end i : ℕ) (vs : List V) → row_in k held end i vs ≡ row k.costs s (in_use held) end (map k.means vs) i
+pub row_is : {V : Type 0} (k : kind.Ghosts V) (s : Scale k.costs) (held : List ℕ) (end i : ℕ) (vs : List V) → row_in k held end i vs ≡ row k.costs s held end (map k.means vs) i
 row_is k s held end i vs =
-    let a = get_or (fenced (in_use held) end) i 0 in
-    let b = get_or (fenced (in_use held) end) (i + 1) 0 in
+    let a = get_or (fenced held end) i 0 in
+    let b = get_or (fenced held end) (i + 1) 0 in
     ap (λ zs. record { from = a; to = b; cells = zs }) (sym (ap (take (b - a + 1)) (drop-map k.means (a + i) vs) ∙ take-map k.means (b - a + 1) (drop (a + i) vs)))

@@ -4,6 +4,7 @@
 mod cuts;
 mod filling;
 mod stepping;
+mod tracing;
 
 pub use cuts::Cuts;
 pub use stepping::{Stepped, climb, step};

@@ -1,10 +1,11 @@
 // One step, from the held cuts to one cut more, and stepping up from no cuts.
-ghost use Rattle.std.specs.Prelude.{◌+◌, ◌≤◌, length, MatchOption};
+ghost use Rattle.std.specs.Prelude.{◌+◌, ◌≤◌, length};
 ghost use Rattle.sources.specs.Meant.{meant};
 ghost use Rattle.steps.specs.Left.{Ready, StepLeft, ClimbLeft};
 
 use crate::cuts::Cuts;
-use crate::filling::fill_rows;
+use crate::filling::Step;
+use rows::class_cost;
 use sources::Source;
 
 // What a step leaves: the new cuts, their total, and the number of costs that were read.
@@ -15,32 +16,18 @@ pub struct Stepped<K> {
     pub reads: u64,
 }
 
-// Fills the rows and traces the new cuts through them. Each cost that it asks for is there, and so is the answer.
-fn try_step<S: Source>(
-    source: &S,
-    held: &Cuts,
-    end: u32,
-    cells: &mut [S::Kind],
-) -> Option<Stepped<S::Kind>>
-    requires { Ready held.now end (S.Source.last source.now) (length cells.old) }
-    ensures { MatchOption result ⊥ (λ t. StepLeft S.Kind.Kind (meant S.Kind.Kind S.Source source.now) held.now end cells.old cells.new t) }
-{
-    let filled = fill_rows(source, held, end, cells)?;
-    let mut cuts = *held;
-    let traced = cuts.trace(source, end, cells)?;
-    Some(Stepped {
-        cuts,
-        total: traced.total,
-        reads: filled + traced.reads,
-    })
-}
-
 // One cut more than the held ones, at the end `end`. The rows go into the lent cells.
 pub fn step<S: Source>(source: &S, held: &Cuts, end: u32, cells: &mut [S::Kind]) -> Stepped<S::Kind>
     requires { Ready held.now end (S.Source.last source.now) (length cells.old) }
     ensures { StepLeft S.Kind.Kind (meant S.Kind.Kind S.Source source.now) held.now end cells.old cells.new result }
 {
-    try_step(source, held, end, cells).unwrap()
+    let step = Step { source, held, end };
+    let filled = step.fill_rows(cells);
+    let traced = step.trace(cells);
+    Stepped {
+        reads: filled + traced.reads,
+        ..traced
+    }
 }
 
 // `count` cuts at the end `end`: the cost of the single class, and then a step for each cut.
@@ -50,7 +37,7 @@ pub fn climb<S: Source>(source: &S, end: u32, count: u32, cells: &mut [S::Kind])
 {
     let mut reached = Stepped {
         cuts: Cuts::none(),
-        total: source.cost(0, end).unwrap(),
+        total: class_cost(source, 0, end),
         reads: 1,
     };
     for _ in 0..count {

@@ -1,5 +1,4 @@
 use Rattle.std.proofs.Common.{◌≡◌, refl, ap, subst, arith}
-use Rattle.std.proofs.lemmas.Option.{MatchOption-at_some}
 use Rattle.sources.specs.Meant.{meant}
 use Rattle.steps.specs.Left.{ClimbLeft}
 use Rattle.steps.proofs.StepsLeft.{climbed_first, climbed_plan, climbed_reads, climbed_more}
@@ -8,22 +7,21 @@ use Rattle.steps.proofs.stepping.climb.Goals as goal
 pub loop-init : goal.loop-init
 loop-init g c =
     let k = g.S.Kind.Kind in
-    let first = ap k.means (MatchOption-at_some _ _ c.unwrap.result c.unwrap.ensures c.cost.ensures).2 in
-    (refl, climbed_first k (meant k g.S.Source c.args.source.now) c.args.end c.args.cells.now _ c.none.ensures.0 first refl)
+    climbed_first k (meant k g.S.Source c.args.source.now) c.args.end c.args.cells.now _ c.none.ensures (ap k.means c.class_cost.ensures) refl
 
 pub step-next-requires : goal.step-next-requires
 step-next-requires g c =
-    let done = c.loop.invariant.1 in
-    record { plan = climbed_plan done; few = omega (arith, done.left.used); within = c.requires.1; short = c.requires.2; room = omega (arith, done.left.used) }
+    let done = c.loop.invariant in
+    record { plan = climbed_plan done; few = omega (arith, done.left.number); within = c.requires.1; short = c.requires.2; room = omega (arith, done.left.number) }
 
 pub overflow_add-reads : goal.overflow_add-reads
-overflow_add-reads g c = record { fits = omega (arith, climbed_reads c.loop.invariant.1 c.requires.2 (omega arith) c.step-next.ensures) }
+overflow_add-reads g c = record { fits = omega (arith, climbed_reads c.loop.invariant c.requires.2 (omega arith) c.step-next.ensures) }
 
 pub loop-preserved : goal.loop-preserved
-loop-preserved g c = (omega arith, climbed_more c.loop.invariant.1 c.requires.2 (omega arith) c.step-next.ensures)
+loop-preserved g c = climbed_more c.loop.invariant c.requires.2 (omega arith) c.step-next.ensures
 
 pub returns : goal.returns
 returns g c =
     let k = g.S.Kind.Kind in
     let all : c.loop.counter ≡ c.args.count = omega arith in
-    subst (λ z. ClimbLeft k (meant k g.S.Source c.args.source.now) c.args.end z c.args.cells.now c.loop.cells c.loop.reached) all c.loop.invariant.1.left
+    subst (λ z. ClimbLeft k (meant k g.S.Source c.args.source.now) c.args.end z c.args.cells.now c.loop.cells c.loop.reached) all c.loop.invariant.left
