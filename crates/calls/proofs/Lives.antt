@@ -14,7 +14,7 @@ use Rattle.plans.proofs.Bounds.{steps_read_little_lem}
 use Rattle.plans.proofs.Climbs.{a_step_leads_on_lem, climbing_leads_there_lem}
 use Rattle.plans.proofs.Shapes.{step_length}
 use Rattle.calls.specs.declared.call.Call.{Call}
-use Rattle.calls.specs.declared.call.Call.TheVariants.{OpenChecked, OpenVouched, Add, Drop, Reach, Look}
+use Rattle.calls.specs.declared.call.Call.TheVariants.{OpenChecked, OpenVouched, Add, Drop, Reach}
 use Rattle.calls.specs.declared.refusal.Refusal.{Refusal}
 use Rattle.calls.specs.declared.refusal.Refusal.TheVariants.{Full, Beyond, TooFewCells}
 use Rattle.plans.specs.Steps.{stepped}
@@ -105,12 +105,7 @@ module _ (K : Costs) (L : Laws K) (s : Scale K) (bound : ℕ) (word : bound ≤ 
       cond_both (leb s.last longest) _ _ (LeftGood s)
       (λ p. cond_both (leb bound largest) _ _ (LeftGood s) (λ q. good_opening K L s (vouched_sound (leb-true _ _ q)) (leb-true _ _ p)) (λ _. tt))
       (λ _. tt)
-  good_after shut Add cells g = tt
-  good_after shut Drop cells g = tt
-  good_after shut (Reach e) cells g = tt
-  good_after shut (Look k) cells g = tt
-  good_after (opened o) OpenChecked cells g = g
-  good_after (opened o) OpenVouched cells g = g
+  good_after shut _ cells g = tt
   good_after (opened o) Add cells g =
       let n = length o.cuts in
       cond_both (ltb n most_cuts) _ _ (LeftGood s) (λ p. good_step K L s o (n + 1) cells (ltb-true _ _ p) g) (λ _. g)
@@ -118,7 +113,7 @@ module _ (K : Costs) (L : Laws K) (s : Scale K) (bound : ℕ) (word : bound ≤ 
       let n = length o.cuts in
       cond_both (ltb 0 n) _ _ (LeftGood s) (λ _. good_climb K L s o o.end (n - 1) cells (omega arith) g) (λ _. g)
   good_after (opened o) (Reach e) cells g = good_climb K L s o e (length o.cuts) cells (omega arith) g
-  good_after (opened o) (Look k) cells g = g
+  good_after (opened o) _ cells g = g
 
   good_life : {st : State K} → Life K s bound st → AllGood s st
   good_life made = tt

@@ -1,5 +1,5 @@
 -- What each call does to a job and to the cells that it is lent, and what it answers, for every input.
-use Rattle.std.specs.Prelude.{◌≡◌, ℕ, ◌+◌, ◌-◌, ◌<◌, ◌≤◌, min, cond, ◌⊎◌, List, [], length, Some, None, Option, nat_le, nat_lt}
+use Rattle.std.specs.Prelude.{ℕ, ◌+◌, ◌-◌, min, cond, List, [], length, Some, None, Option, nat_le, nat_lt}
 use Rattle.costs.specs.Costs.{Costs}
 use Rattle.costs.specs.Limits.{largest}
 use Rattle.sources.specs.Scales.{Scale}
@@ -99,16 +99,9 @@ module _ (K : Costs) (s : Scale K) where
   does bound (opened o) (Reach e) cells = let n = length o.cuts in planned o e n cells (climb K s e n cells)
   does bound (opened o) (Look k) cells = record { state = opened o; cells = cells; answer = shown (looked o k) }
 
--- why a plan with n cuts at the end e is refused, where the furthest end is given and the number of cells
-abbrev pub NoRoom : Refusal → ℕ → ℕ → ℕ → ℕ → Type 0
-NoRoom why furthest e n cells = ((why ≡ Beyond) × (furthest < e)) ⊎ ((why ≡ TooFewCells) × (e ≤ furthest) × (cells < e + n))
-
 -- ---- which cells a call fills
 
 abbrev pub filled : {K : Costs} → State K → Answer K → ℕ
 filled (opened o) (counted reads) = touched o.end (length o.cuts)
-filled (opened o) (refused why) = 0
-filled (opened o) accepted = 0
-filled (opened o) nothing = 0
-filled (opened o) (shown v) = 0
-filled shut a = 0
+filled (opened o) _ = 0
+filled shut _ = 0

@@ -4,25 +4,16 @@ use Rattle.costs.specs.Limits.{largest}
 use Rattle.sources.specs.Scales.{Scale, Sized, Glebov, Sound}
 use Rattle.sources.specs.Squares.{FirstLarge, FirstBroken}
 use Rattle.calls.specs.declared.refusal.Refusal.{Refusal}
-use Rattle.calls.specs.declared.refusal.Refusal.TheVariants.{TooLong, TooLarge, Broken, BoundTooLarge, AlreadyOpen, NotOpen, Full, NoCut, Beyond, TooFewCells}
-use Rattle.calls.specs.Calls.{Answer, refused, accepted, counted, nothing, shown}
+use Rattle.calls.specs.declared.refusal.Refusal.TheVariants.{TooLarge, Broken}
+use Rattle.calls.specs.Calls.{Answer, refused, accepted}
 
 abbrev pub RefusalTells : (K : Costs) → Scale K → Refusal → Type 0
 RefusalTells K s (TooLarge at) = FirstLarge K s at.0 at.1
 RefusalTells K s (Broken at) = Sized K s largest × FirstBroken K s at.0 at.1 × (Glebov K s → ⊥)
-RefusalTells K s TooLong = Unit {0}
-RefusalTells K s BoundTooLarge = Unit {0}
-RefusalTells K s AlreadyOpen = Unit {0}
-RefusalTells K s NotOpen = Unit {0}
-RefusalTells K s Full = Unit {0}
-RefusalTells K s NoCut = Unit {0}
-RefusalTells K s Beyond = Unit {0}
-RefusalTells K s TooFewCells = Unit {0}
+RefusalTells K s _ = Unit {0}
 
 -- where the opening is accepted, all sizes keep to the largest and the condition holds
 abbrev pub Tells : (K : Costs) → Scale K → Answer K → Type 0
 Tells K s accepted = Sound K s largest
 Tells K s (refused why) = RefusalTells K s why
-Tells K s (counted reads) = Unit {0}
-Tells K s nothing = Unit {0}
-Tells K s (shown v) = Unit {0}
+Tells K s _ = Unit {0}

@@ -16,13 +16,6 @@ refusal_number Beyond = 9
 refusal_number TooFewCells = 10
 
 abbrev pub refusal_pair : Refusal → Option (ℕ × ℕ)
-refusal_pair TooLong = None
 refusal_pair (TooLarge at) = Some at
 refusal_pair (Broken at) = Some at
-refusal_pair BoundTooLarge = None
-refusal_pair AlreadyOpen = None
-refusal_pair NotOpen = None
-refusal_pair Full = None
-refusal_pair NoCut = None
-refusal_pair Beyond = None
-refusal_pair TooFewCells = None
+refusal_pair _ = None

@@ -1,5 +1,3 @@
-use crate::refusal::Refusal;
-
 // What a look shows of an open job.
 #[derive(Clone, Copy)]
 pub struct View<K> {
@@ -11,15 +9,13 @@ pub struct View<K> {
     pub cut: Option<u32>,
 }
 
-// What a job answers to a call.
+// What a job answers to a call that it does not refuse.
 #[derive(Clone, Copy)]
 pub enum Answer<K> {
-    Refused(Refusal),
     // an opening gives no count
     Accepted,
     // the number of costs that were read
     Counted(u64),
-    // a look at a shut job
-    Nothing,
-    Shown(View<K>),
+    // nothing is seen of a shut job
+    Looked(Option<View<K>>),
 }

@@ -1,3 +1,2 @@
-pub mod PlansInUse
-pub mod Doing
+pub mod Climbing
 pub mod Running

@@ -2,6 +2,7 @@
 #![tactic(auto)]
 
 mod job;
+mod plan;
 mod record;
 
 pub use calls::{Answer, Call, Refusal, View, law_of_lives};

@@ -1,7 +1,7 @@
-use calls::{Answer, Call};
+use calls::{Answer, Call, Refusal};
 use steps::Cuts;
 
-// The plan of an open job.
+// The plan of an open job, as it is shown: plain values, which anybody may make.
 #[derive(Drop)]
 pub struct Moment<K> {
     pub end: u32,
@@ -13,6 +13,6 @@ pub struct Moment<K> {
 #[derive(Drop)]
 pub struct Record<K> {
     pub call: Call,
-    pub answer: Answer<K>,
+    pub answer: Result<Answer<K>, Refusal>,
     pub moment: Option<Moment<K>>,
 }

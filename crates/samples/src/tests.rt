@@ -34,19 +34,14 @@ fn opened(rt: &impl Abort, heap: Global) -> Result<Job<HouseCounts>, Fail> {
 
 // A refusal by its number.
 fn told<T>(res: Result<T, Refusal>) -> Result<T, u8> {
-    match res {
-        Ok(value) => Ok(value),
-        Err(refusal) => Err(refusal.number()),
-    }
+    res.map_err(Refusal::number)
 }
 
 // The number of a refusal and the places that it gives.
 fn refused(res: Result<(), Refusal>) -> Option<(u8, u32, u32)> {
-    match res {
-        Err(Refusal::TooLarge((x, y))) => Some((2, x, y)),
-        Err(Refusal::Broken((i, j))) => Some((3, i, j)),
-        _ => None,
-    }
+    let refusal = res.err()?;
+    let (x, y) = refusal.pair()?;
+    Some((refusal.number(), x, y))
 }
 
 // The end, the number of cuts, the total and the first three cuts of an open job.

@@ -1,9 +1,9 @@
 // A list of calls on one job, with a record of each.
-ghost use Rattle.std.specs.Prelude.{◌≡◌, ◌≤◌, MatchResult};
+ghost use Rattle.std.specs.Prelude.{◌≤◌};
 ghost use Rattle.costs.specs.Limits.{largest};
 ghost use Rattle.sources.specs.Meant.{meant};
 ghost use Rattle.sources.specs.Scales.{Sound};
-ghost use Rattle.jobs.specs.Jobs.{Ran};
+ghost use Rattle.jobs.specs.Jobs.{RanOrKept};
 
 use crate::job::Job;
 use crate::record::Record;
@@ -22,7 +22,7 @@ impl<S: Source> Job<S> {
         cells: &mut [S::Kind],
     ) -> Result<Vec<Record<S::Kind>>, AllocError>
         requires { bound ≤ largest → Sound S.Kind.Kind.costs (meant S.Kind.Kind S.Source self.old.source) bound }
-        ensures { MatchResult result (λ v. Ran S.Kind.Kind S.Source bound calls.now self.old self.new cells.old cells.new v.items) (λ _. (self.new ≡ self.old) × (cells.new ≡ cells.old)) }
+        ensures { RanOrKept S.Kind.Kind S.Source bound calls.now self.old self.new cells.old cells.new result }
     {
         let mut records = Vec::with_capacity(heap, calls.len())?;
         for call in calls {
@@ -36,14 +36,14 @@ impl<S: Source> Job<S> {
         Ok(records)
     }
 
-    // Runs a job over a source that does not vouch: its vouched openings are refused.
+    // Runs a job over a source that does not vouch: it counts as one that vouches for too large a bound, so its vouched openings are refused.
     pub fn run_checked(
         &mut self,
         heap: Global,
         calls: &[Call],
         cells: &mut [S::Kind],
     ) -> Result<Vec<Record<S::Kind>>, AllocError>
-        ensures { MatchResult result (λ v. Ran S.Kind.Kind S.Source 18446744073709551615 calls.now self.old self.new cells.old cells.new v.items) (λ _. (self.new ≡ self.old) × (cells.new ≡ cells.old)) }
+        ensures { RanOrKept S.Kind.Kind S.Source u64.MAX calls.now self.old self.new cells.old cells.new result }
     {
         self.run_under(heap, u64::MAX, calls, cells)
     }
@@ -57,7 +57,7 @@ impl<S: Vouching> Job<S> {
         calls: &[Call],
         cells: &mut [S::Kind],
     ) -> Result<Vec<Record<S::Kind>>, AllocError>
-        ensures { MatchResult result (λ v. Ran S.Kind.Kind S.Source (S.Vouching.vouched self.old.source) calls.now self.old self.new cells.old cells.new v.items) (λ _. (self.new ≡ self.old) × (cells.new ≡ cells.old)) }
+        ensures { RanOrKept S.Kind.Kind S.Source (S.Vouching.vouched self.old.source) calls.now self.old self.new cells.old cells.new result }
     {
         let bound = self.source.bound();
         self.run_under(heap, bound, calls, cells)

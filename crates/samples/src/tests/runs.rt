@@ -5,26 +5,23 @@ use jobs::Record;
 
 // The number of a refusal, and 0 for any other answer.
 fn number(record: &Record<i64>) -> u8 {
-    match record.answer {
-        Answer::Refused(refusal) => refusal.number(),
-        _ => 0,
-    }
+    record.answer.err().map_or(0, Refusal::number)
 }
 
 // The reads that a call answered, where it did.
 fn reads(record: &Record<i64>) -> Option<u64> {
     match record.answer {
-        Answer::Counted(reads) => Some(reads),
+        Ok(Answer::Counted(reads)) => Some(reads),
         _ => None,
     }
 }
 
 // The end and the total right after a call, where the job was open.
 fn moment(record: &Record<i64>) -> Option<(u32, i64)> {
-    match &record.moment {
-        Some(moment) => Some((moment.end, moment.total)),
-        None => None,
-    }
+    record
+        .moment
+        .as_ref()
+        .map(|moment| (moment.end, moment.total))
 }
 
 #[test]

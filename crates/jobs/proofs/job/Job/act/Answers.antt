@@ -1,17 +1,46 @@
-use Rattle.jobs.proofs.Doing.{did_as}
+use Rattle.std.proofs.Common.{◌≡◌, Ok, Err, Result, refl, ◌∙◌, ap}
+use Rattle.std.proofs.lemmas.Result.{err_from_is_err_and}
+use Rattle.std.specs.Result.{result_and}
+use Rattle.costs.specs.declared.kind.Kind as kind
+use Rattle.calls.specs.declared.answer.Answer.TheVariants.{Accepted}
+use Rattle.calls.specs.declared.refusal.Refusal.{Refusal}
+use Rattle.jobs.specs.Jobs.{answer_of, opening}
 use Rattle.jobs.proofs.job.Job.act.Goals as goal
 
-pub returns-in-Shut-OpenChecked : goal.returns-in-Shut-OpenChecked
-returns-in-Shut-OpenChecked g c = did_as c.in-Shut-OpenChecked.is-1 c.opening_answer.ensures (c.check_and_open.ensures c.args.bound c.args.cells.now)
+accepts : {V : Type 0} (k : kind.Ghosts V) (r : Result (Unit {0}) Refusal) → answer_of k (result_and r (Ok Accepted)) ≡ opening k r
+accepts k (Ok _) = refl
+accepts k (Err why) = refl
 
-pub returns-in-Shut-OpenVouched : goal.returns-in-Shut-OpenVouched
-returns-in-Shut-OpenVouched g c = did_as c.in-Shut-OpenVouched.is-1 c.opening_answer-in-Shut-OpenVouched.ensures (c.trust_and_open.ensures c.args.cells.now)
+pub returns-in-OpenChecked : goal.returns-in-OpenChecked
+returns-in-OpenChecked g c =
+    rw (c.in-OpenChecked.is, ap (answer_of g.S.Kind.Kind) c.and.ensures ∙ accepts g.S.Kind.Kind c.open_checked.result)
+    (c.open_checked.ensures.did c.args.bound c.args.cells.now)
 
-pub returns-in-Open-Add : goal.returns-in-Open-Add
-returns-in-Open-Add g c = did_as c.in-Open-Add.is-1 c.counting_answer.ensures (c.step_on.ensures c.args.bound)
+pub returns-in-OpenVouched : goal.returns-in-OpenVouched
+returns-in-OpenVouched g c =
+    rw (c.in-OpenVouched.is, ap (answer_of g.S.Kind.Kind) c.and-in-OpenVouched.ensures ∙ accepts g.S.Kind.Kind c.open_under.result)
+    (c.open_under.ensures c.args.cells.now)
 
-pub returns-in-Open-Drop : goal.returns-in-Open-Drop
-returns-in-Open-Drop g c = did_as c.in-Open-Drop.is-1 c.counting_answer-in-Open-Drop.ensures (c.step_down.ensures c.args.bound)
+pub returns-in_ok-add_cut-in-Add : goal.returns-in_ok-add_cut-in-Add
+returns-in_ok-add_cut-in-Add g c = rw c.in-Add.is (c.in_ok-add_cut-in-Add.ensures c.args.bound)
 
-pub returns-in-Open-Reach : goal.returns-in-Open-Reach
-returns-in-Open-Reach g c = did_as c.in-Open-Reach.is-1 c.counting_answer-in-Open-Reach.ensures (c.move_end.ensures c.args.bound)
+pub returns-in_err-add_cut-in-Add : goal.returns-in_err-add_cut-in-Add
+returns-in_err-add_cut-in-Add g c =
+    let p = err_from_is_err_and c.from_residual.result c.from_residual.ensures.1 in
+    rw (c.in-Add.is, p.1, p.2) (c.in_err-add_cut-in-Add.ensures c.args.bound)
+
+pub returns-in_ok-drop_cut-in-Drop : goal.returns-in_ok-drop_cut-in-Drop
+returns-in_ok-drop_cut-in-Drop g c = rw c.in-Drop.is (c.in_ok-drop_cut-in-Drop.ensures c.args.bound)
+
+pub returns-in_err-drop_cut-in-Drop : goal.returns-in_err-drop_cut-in-Drop
+returns-in_err-drop_cut-in-Drop g c =
+    let p = err_from_is_err_and c.from_residual-in_err-drop_cut-in-Drop.result c.from_residual-in_err-drop_cut-in-Drop.ensures.1 in
+    rw (c.in-Drop.is, p.1, p.2) (c.in_err-drop_cut-in-Drop.ensures c.args.bound)
+
+pub returns-in_ok-reach-in-Reach : goal.returns-in_ok-reach-in-Reach
+returns-in_ok-reach-in-Reach g c = rw c.in-Reach.is (c.in_ok-reach-in-Reach.ensures c.args.bound)
+
+pub returns-in_err-reach-in-Reach : goal.returns-in_err-reach-in-Reach
+returns-in_err-reach-in-Reach g c =
+    let p = err_from_is_err_and c.from_residual-in_err-reach-in-Reach.result c.from_residual-in_err-reach-in-Reach.ensures.1 in
+    rw (c.in-Reach.is, p.1, p.2) (c.in_err-reach-in-Reach.ensures c.args.bound)

@@ -1,16 +1,16 @@
-use Rattle.std.proofs.Common.{[], sym, ap, ◌∙◌, subst, rules}
+use Rattle.std.proofs.Common.{sym}
 use Rattle.sources.specs.Meant.{meant}
-use Rattle.jobs.specs.Jobs.{state_of}
-use Rattle.calls.specs.Openings.{Tells}
-use Rattle.calls.proofs.Tellings.{checked_tells}
+use Rattle.calls.proofs.Tellings.{large_tells, broken_tells}
 use Rattle.jobs.proofs.job.Job.open_checked.Goals as goal
 
-pub returns : goal.returns
-returns g c =
+pub returns-in-Some-clause-tells : goal.returns-in-Some-clause-tells
+returns-in-Some-clause-tells g c =
     let k = g.S.Kind.Kind in
-    let job = c.args.self.now in
-    let s = meant k g.S.Source job.source in
-    record {
-      tells = subst (Tells k.costs s) (sym (c.opened.ensures ∙ ap (λ o. o.answer) c.act.ensures.outcome)) (checked_tells k.costs g.met.S.Kind.Kind.laws s 0 [] (state_of k job));
-      did = search rules;
-    }
+    large_tells k.costs g.met.S.Kind.Kind.laws (meant k g.S.Source c.args.self.now.source) c.in-Some.class (sym c.in-Some.ensures.value)
+
+pub returns-in-Some-first_broken_square-clause-tells : goal.returns-in-Some-first_broken_square-clause-tells
+returns-in-Some-first_broken_square-clause-tells g c =
+    let k = g.S.Kind.Kind in
+    broken_tells k.costs g.met.S.Kind.Kind.laws (meant k g.S.Source c.args.self.now.source) c.in-Some-first_broken_square.square
+    (c.first_too_large.ensures.sized c.in_default.is)
+    (sym c.in-Some-first_broken_square.ensures.value)
