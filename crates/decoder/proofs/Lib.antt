@@ -1,5 +1,4 @@
 pub mod Fronts
-pub mod Readings
-pub mod Sofar
+pub mod Orders
 pub mod Limits
 pub mod Samples

@@ -1,5 +1,6 @@
--- One record of a sheet.
-use Rattle.std.specs.Prelude.{ℕ, ◌+◌, ◌*◌, Bool, cond, ◌&&◌, List, length, Some, None, Option, ◌==◌, nat_le, slice_index}
+-- The records of a sheet.
+use Rattle.std.specs.Prelude.{ℕ, zero, suc, ◌+◌, ◌-◌, ◌*◌, Bool, true, false, cond, ◌&&◌, List, [], ◌∷◌, length, Some, None, Option, ◌==◌, nat_le, slice_index}
+use Rattle.decoder.specs.declared.sheet.Event.{Event}
 use Rattle.decoder.specs.declared.sheet.Event.TheVariants.{Open, Add, Drop, Reach}
 use Rattle.decoder.specs.declared.record.Record.{Record}
 use Rattle.decoder.specs.declared.record.Record.TheVariants.{Count, Event as Happens}
@@ -29,3 +30,23 @@ width (Happens Open) = 2
 width (Happens Add) = 2
 width (Happens Drop) = 2
 width (Happens (Reach n)) = 4
+
+-- is it a count
+abbrev pub is_count : Record → Bool
+is_count (Count n) = true
+is_count (Happens e) = false
+
+-- the count of a record that is one, and the event of a record that is one
+abbrev pub count_of : Record → Option ℕ
+count_of (Count n) = Some n
+count_of (Happens e) = None
+
+abbrev pub event_of : Record → Option Event
+event_of (Count n) = None
+event_of (Happens e) = Some e
+
+-- the records that the bytes begin with, up to the first that is unknown or cut; the first `skip` bytes belong to the record before
+abbrev pub records : ℕ → List ℕ → List Record
+records skip [] = []
+records (suc skip) (b ∷ bs) = records skip bs
+records zero (b ∷ bs) = elim (front (b ∷ bs)) [ None ↦ [] | Some r ↦ r ∷ records (width r - 1) bs ]

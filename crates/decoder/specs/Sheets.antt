@@ -1,5 +1,5 @@
 -- What the bytes of a class sheet mean.
-use Rattle.std.specs.Prelude.{ℕ, zero, suc, ◌+◌, ◌-◌, cond, List, [], ◌∷◌, ◌++◌, length, take, Some, None, Ok, Err, Result, nat_le}
+use Rattle.std.specs.Prelude.{◌≡◌, ℕ, zero, suc, ◌+◌, ◌-◌, ◌<◌, cond, List, [], ◌∷◌, ◌++◌, length, take, Some, None, Ok, Err, Result, nat_le}
 use Rattle.decoder.specs.declared.sheet.Event.{Event}
 use Rattle.decoder.specs.declared.record.Record.TheVariants.{Count, Event as Happens}
 use Rattle.decoder.specs.Records.{front, width}
@@ -36,3 +36,8 @@ sheet bs = limited (length bs) (read [] [] 0 0 (take limit bs))
 abbrev pub Faultless : Meaning → Type 0
 Faultless (Ok s) = Unit {0}
 Faultless (Err p) = ⊥
+
+-- n bytes of `long` stand before the first fault
+abbrev pub BeforeFault : ℕ → ℕ → Meaning → Type 0
+BeforeFault n long (Ok s) = n ≡ long
+BeforeFault n long (Err p) = (n ≡ p) × (p < long)

@@ -58,7 +58,7 @@ impl SheetReader for &[u8] {
 
     fn read_at_most(self, heap: Global, most: usize) -> io::Result<Vec<u8>> {
         let most = most.min(self.len());
-        Ok(Vec::from_slice(heap, &self[0..most])?)
+        Ok(Vec::from_slice(heap, &self[..most])?)
     }
 }
 

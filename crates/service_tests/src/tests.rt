@@ -37,34 +37,25 @@ struct Drip<'a> {
 
 impl Read for Drip<'_> {
     fn read(&mut self, buf: &mut [u8]) -> io::Result<usize> {
-        if buf.is_empty() {
+        let ([place, ..], [first, rest @ ..]) = (buf, self.rest) else {
             return Ok(0);
-        }
-        match self.rest {
-            [] => Ok(0),
-            [first, rest @ ..] => {
-                buf[0] = *first;
-                self.rest = rest;
-                Ok(1)
-            }
-        }
+        };
+        *place = *first;
+        self.rest = rest;
+        Ok(1)
     }
 }
 
 // `count` bytes, of which each two are an event; at an odd count the last is cut.
 fn events(heap: Global, count: usize) -> Result<Vec<u8>, AllocError> {
-    let mut bytes = Vec::new(heap);
-    for i in 0..count {
-        bytes.push(if i % 2 == 0 { b'O' } else { b'P' })?;
-    }
-    Ok(bytes)
+    b"OP".iter().copied().cycle().take(count).collect(heap)
 }
 
 // What is told of an outcome.
 fn told(heap: Global, served: Result<(), ServeFault>) -> Result<String, AllocError> {
     match served {
         Ok(()) => String::from_str(heap, "written"),
-        Err(fault) => format!(in heap; "{fault}"),
+        Err(fault) => fault.to_string(heap),
     }
 }
 

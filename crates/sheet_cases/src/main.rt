@@ -2,15 +2,15 @@
 // for each, the text that the planner prints for it goes to standard output, and then a line `--`.
 #![tactic(auto)]
 
-ghost use Rattle.std.specs.Prelude.{◌≡◌, ℕ, ◌/◌, ◌%◌, ◌<◌, IfOk, MatchOption, ◌≢◌};
+ghost use Rattle.std.specs.Prelude.{◌≡◌, ℕ, [], ◌∷◌, ◌/◌, ◌%◌, ◌<◌, IfOk, MatchOption, ◌≢◌};
 ghost use Rattle.sheet_cases.specs.Spelled.{digit, spelled};
 
-use anyhow::anyhow;
+use anyhow::{Context, bail};
 use sheets::answer;
 use std::alloc::Global;
 use std::io::{BufRead, BufReader};
 
-// The number that a hexadecimal digit stands for.
+// The number that a hexadecimal digit stands for. A capital is none here, so the library `hex` does not serve.
 fn digit_value(code: u8) -> Option<u8>
     ensures { MatchOption result ((n : ℕ) → n < 16 → digit n ≢ code) (λ n. (n < 16) × (digit n ≡ code)) }
 {
@@ -28,23 +28,23 @@ fn byte_value(high: u8, low: u8) -> Option<u8>
     Some(digit_value(high)? * 16 + digit_value(low)?)
 }
 
+// The byte that two digits spell.
+fn spelled_byte(digits: &[u8]) -> anyhow::Result<u8>
+    ensures { IfOk result (λ byte. spelled (byte ∷ []) ≡ digits.now) }
+{
+    let [high, low] = digits else {
+        bail!("a line has an odd number of digits");
+    };
+    byte_value(*high, *low).context("a line has a sign that is no hexadecimal digit")
+}
+
 // The bytes that a line spells.
 fn spelled_bytes(heap: Global, line: &[u8]) -> anyhow::Result<Vec<u8>>
     ensures { IfOk result (λ v. spelled v.items ≡ line.now) }
 {
-    let mut bytes = Vec::new(heap);
-    let mut rest = line;
-    while let [high, low, more @ ..] = rest {
-        let Some(byte) = byte_value(*high, *low) else {
-            return Err(anyhow!("a line has a sign that is no hexadecimal digit"));
-        };
-        bytes.push(byte)?;
-        rest = more;
-    }
-    if !rest.is_empty() {
-        return Err(anyhow!("a line has an odd number of digits"));
-    }
-    Ok(bytes)
+    line.chunks(2)
+        .map(|digits| spelled_byte(digits))
+        .try_collect(heap)
 }
 
 // Prints the text for the sheet that a line spells.

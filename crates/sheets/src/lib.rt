@@ -2,6 +2,7 @@
 #![tactic(auto)]
 
 mod answering;
+mod fault;
 mod performing;
 #[cfg(test)]
 mod tests;

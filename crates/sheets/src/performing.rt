@@ -16,7 +16,7 @@ const CELLS: usize = 4_351;
 
 // The lines of the events.
 pub fn perform(heap: Global, counts: HouseCounts, events: &[Event]) -> Result<String, AllocError>
-    ensures { IfOk result (λ s. Performed counts.counts.items events.now (string_bytes s)) }
+    ensures { IfOk result (λ s. Performed counts events.now (string_bytes s)) }
 {
     let calls = calls_of(heap, events)?;
     let mut cells = vec![in heap; 0i64; CELLS]?;
@@ -29,14 +29,13 @@ pub fn perform(heap: Global, counts: HouseCounts, events: &[Event]) -> Result<St
 fn calls_of(heap: Global, events: &[Event]) -> Result<Vec<Call>, AllocError>
     ensures { IfOk result (λ v. v.items ≡ map call_of events.now) }
 {
-    let mut calls = Vec::new(heap);
-    for event in events {
-        calls.push(performing_call(*event))?;
-    }
-    Ok(calls)
+    events
+        .iter()
+        .map(|event| performing_call(*event))
+        .collect(heap)
 }
 
-// The call that performs an event.
+// The call that performs an event. Neither type is of this crate, so this is no `From`.
 fn performing_call(event: Event) -> Call
     ensures { result ≡ call_of event }
 {
@@ -52,10 +51,9 @@ fn performing_call(event: Event) -> Call
 fn lines_text(heap: Global, events: &[Event], records: &[Record<i64>]) -> Result<String, AllocError>
     ensures { IfOk result (λ s. string_bytes s ≡ lines events.now (map (recorded_of plain) records.now)) }
 {
-    let mut text = String::new(heap);
-    for (event, record) in events.iter().zip(records) {
-        let line = line(heap, *event, record)?;
-        text.push_str(line.as_str())?;
-    }
-    Ok(text)
+    events
+        .iter()
+        .zip(records)
+        .map(|(event, record)| line(heap, *event, record))
+        .try_collect(heap)
 }

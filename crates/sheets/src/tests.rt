@@ -2,6 +2,7 @@
 use crate::answering::answer;
 use decoder::{Event, SheetFault, decode};
 use std::alloc::{AllocError, Global};
+use std::iter;
 use std::process::Abort;
 use std::test::Fail;
 
@@ -13,13 +14,12 @@ fn check_fault(rt: &impl Abort, heap: Global, bytes: &[u8], place: u32) {
 }
 
 // `record` so many times, and `more` behind it.
-fn repeated(heap: Global, record: &[u8], times: u32, more: &[u8]) -> Result<Vec<u8>, AllocError> {
-    let mut bytes = Vec::new(heap);
-    for _ in 0..times {
-        bytes.extend_from_slice(record)?;
-    }
-    bytes.extend_from_slice(more)?;
-    Ok(bytes)
+fn repeated(heap: Global, record: &[u8], times: usize, more: &[u8]) -> Result<Vec<u8>, AllocError> {
+    iter::repeat_n(record, times)
+        .flatten()
+        .chain(more)
+        .copied()
+        .collect(heap)
 }
 
 #[test]

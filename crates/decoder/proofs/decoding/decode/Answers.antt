@@ -1,15 +1,14 @@
-use Rattle.std.proofs.Common.{Err, ap, ◌∙◌}
+use Rattle.std.proofs.Common.{Ok, Err, sym, ap, ◌∙◌}
 use Rattle.std.proofs.lemmas.Result.{err_from_is_err_and}
-use Rattle.decoder.proofs.Limits.{sheet_faultless, read_faultless, wants_memory}
+use Rattle.decoder.proofs.Limits.{passed, sheet_holds, wants_memory}
 use Rattle.decoder.proofs.decoding.decode.Goals as goal
 
-pub sheet_of-requires : goal.sheet_of-requires
-sheet_of-requires c = read_faultless c.args.bytes.now c.in-None.ensures
+pub returns-in_err-sheet_of : goal.returns-in_err-sheet_of
+returns-in_err-sheet_of c =
+    let p = err_from_is_err_and c.from_residual-in_err-sheet_of.result c.from_residual-in_err-sheet_of.ensures.1 in
+    wants_memory _ _ (p.1 ∙ ap Err p.2) (passed _ c.check.result c.in_ok-map_err.ensures.variant c.check.ensures)
 
-pub returns-in_err-sheet_of-in-None : goal.returns-in_err-sheet_of-in-None
-returns-in_err-sheet_of-in-None c =
-    let p = err_from_is_err_and c.from_residual.result c.from_residual.ensures.1 in
-    wants_memory _ _ (p.1 ∙ ap Err p.2) c.in-None.ensures
-
-pub returns-in_ok-sheet_of-in-None : goal.returns-in_ok-sheet_of-in-None
-returns-in_ok-sheet_of-in-None c = sheet_faultless c.args.bytes.now c.in-None.ensures ∙ c.in_ok-sheet_of-in-None.ensures
+pub returns : goal.returns
+returns c =
+    sheet_holds c.args.bytes.now (passed _ c.check.result c.in_ok-map_err.ensures.variant c.check.ensures)
+    ∙ ap Ok (λ i. (sym c.in_ok-sheet_of.ensures.0 i, sym c.in_ok-sheet_of.ensures.1 i))

@@ -1,15 +1,10 @@
 use Rattle.std.proofs.Common.{◌≡◌, map, vec_items, string_bytes, ap, ◌∙◌}
-use Rattle.std.proofs.lemmas.Result.{IfOk-weaker, err_from_is_err_and}
+use Rattle.std.proofs.lemmas.Result.{IfOk-weaker}
 use Rattle.costs.specs.contracts.number.I64Kind.TheImpl.{ghosts as plain}
 use Rattle.jobs.specs.Jobs.{recorded_of}
 use Rattle.sheets.specs.Printed.{lines, Performed}
 use Rattle.sheets.proofs.Performances.{performed}
 use Rattle.sheets.proofs.performing.perform.Goals as goal
-
-pub returns-in_err-records : goal.returns-in_err-records
-returns-in_err-records c =
-    let p = err_from_is_err_and c.from_residual-in_err-records.result c.from_residual-in_err-records.ensures.1 in
-    rw p.1 tt
 
 pub returns : goal.returns
 returns c =
@@ -17,7 +12,7 @@ returns c =
     let written = c.deref-2.result.now in
     IfOk-weaker c.lines_text.result
     (λ s. string_bytes s ≡ lines events (map (recorded_of plain) written))
-    (λ s. Performed (vec_items c.args.counts.counts) events (string_bytes s))
+    (λ s. Performed c.args.counts events (string_bytes s))
     (λ s e.
     performed c.args.counts events c.deref.result.now c.new-job.result c.run.new.self c.deref_mut.result.now c.run.new.cells (vec_items c.in_ok-records.records) (string_bytes s)
     (c.deref.ensures.value ∙ c.in_ok-calls.ensures)
