@@ -1,10 +1,10 @@
--- The record that the bytes begin with, mark by mark.
-use Rattle.std.proofs.Common.{◌≡◌, ℕ, ◌+◌, ◌-◌, ◌*◌, ◌≤◌, List, length, get_or, take, drop, Some, arith}
+-- A reach at the front of the bytes.
+use Rattle.std.proofs.Common.{◌≡◌, ℕ, ◌+◌, ◌-◌, ◌≤◌, List, length, get_or, take, drop, Some, arith}
 use Rattle.std.proofs.lemmas.List.{take_rest, length-drop}
 use Rattle.std.proofs.lemmas.Bool.Decides.{nat_tests}
 use Rattle.decoder.specs.declared.record.Record.{Record}
-use Rattle.decoder.specs.declared.record.Record.TheVariants.{Count, Event as Happens}
-use Rattle.decoder.specs.declared.sheet.Event.TheVariants.{Open, Add, Drop, Reach}
+use Rattle.decoder.specs.declared.record.Record.TheVariants.{Event as Happens}
+use Rattle.decoder.specs.declared.sheet.Event.TheVariants.{Reach}
 use Rattle.decoder.specs.Records.{front, pair, width}
 
 -- the bytes begin with the record r, and the others stand behind it
@@ -16,18 +16,6 @@ Fronted bs r =
 module _ (bs : List ℕ) where
   fronted : (r : Record) → width r ≤ length bs → front bs ≡ Some r → Fronted bs r
   fronted r h e = (e, take_rest bs (width r), rw (take_rest bs (width r), length-drop (width r) bs) (omega arith))
-
-  pub front_count : (n : ℕ) → 6 ≤ length bs → get_or bs 0 0 ≡ 0x43 → get_or bs 1 0 ≡ 0x54 → n ≡ pair 2 bs * 65536 + pair 4 bs → Fronted bs (Count n)
-  front_count n h x y e = let f : front bs ≡ Some (Count (pair 2 bs * 65536 + pair 4 bs)) = grind (arith, nat_tests) in fronted (Count n) h (rw e f)
-
-  pub front_open : 2 ≤ length bs → get_or bs 0 0 ≡ 0x4F → get_or bs 1 0 ≡ 0x50 → Fronted bs (Happens Open)
-  front_open h x y = fronted (Happens Open) h (grind (arith, nat_tests))
-
-  pub front_add : 2 ≤ length bs → get_or bs 0 0 ≡ 0x41 → get_or bs 1 0 ≡ 0x44 → Fronted bs (Happens Add)
-  front_add h x y = fronted (Happens Add) h (grind (arith, nat_tests))
-
-  pub front_drop : 2 ≤ length bs → get_or bs 0 0 ≡ 0x44 → get_or bs 1 0 ≡ 0x52 → Fronted bs (Happens Drop)
-  front_drop h x y = fronted (Happens Drop) h (grind (arith, nat_tests))
 
   pub front_reach : (n : ℕ) → 4 ≤ length bs → get_or bs 0 0 ≡ 0x52 → get_or bs 1 0 ≡ 0x45 → n ≡ pair 2 bs → Fronted bs (Happens (Reach n))
   front_reach n h x y e = let f : front bs ≡ Some (Happens (Reach (pair 2 bs))) = grind (arith, nat_tests) in fronted (Happens (Reach n)) h (rw e f)

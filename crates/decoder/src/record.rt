@@ -12,13 +12,13 @@ pub enum Record {
 }
 
 impl Record {
-    pub fn is_count(&self) -> bool
+    pub(crate) fn is_count(&self) -> bool
         ensures { result ≡ is_count self.now }
     {
         matches!(self, Record::Count(_))
     }
 
-    pub fn count(self) -> Option<u32>
+    pub(crate) fn count(self) -> Option<u32>
         ensures { result ≡ count_of self }
     {
         match self {
@@ -27,7 +27,7 @@ impl Record {
         }
     }
 
-    pub fn event(self) -> Option<Event>
+    pub(crate) fn event(self) -> Option<Event>
         ensures { result ≡ event_of self }
     {
         match self {
@@ -37,7 +37,7 @@ impl Record {
     }
 
     // How many bytes it takes.
-    pub fn width(self) -> usize
+    pub(crate) fn width(self) -> usize
         ensures { result ≡ width self }
     {
         match self {
