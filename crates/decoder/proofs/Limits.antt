@@ -2,15 +2,15 @@
 use Rattle.std.proofs.Common.{◌≡◌, ℕ, ◌<◌, ◌≤◌, min, true, List, [], length, take, Ok, Err, Result, MatchResult, refl, sym, ap, ◌∙◌, inl, inr, arith}
 use Rattle.std.proofs.lemmas.List.{take_all, length-take}
 use Rattle.std.proofs.lemmas.Bool.{le-leb, lt-leb, cases_lt}
-use Rattle.std.specs.List.{filter_map}
+use Rattle.std.specs.List.{filter_map, take_while}
 use Rattle.std.specs.Result.{is_ok}
 use Rattle.decoder.specs.declared.sheet.Sheet.{Sheet}
 use Rattle.decoder.specs.declared.sheet.SheetFault.{SheetFault}
 use Rattle.decoder.specs.declared.sheet.SheetFault.TheVariants.{Memory}
 use Rattle.decoder.specs.Faults.{Answers}
-use Rattle.decoder.specs.Records.{count_of, event_of, records}
+use Rattle.decoder.specs.Records.{is_count, count_of, event_of, records}
 use Rattle.decoder.specs.Sheets.{Meaning, read, limit, limited, sheet, BeforeFault, Faultless}
-use Rattle.decoder.proofs.Orders.{meaning_holds}
+use Rattle.decoder.proofs.Orders.{meaning_holds, meaning_leads}
 
 -- ---- what was found of the first bytes, as many as a sheet may have
 
@@ -57,6 +57,10 @@ module _ (bs : List ℕ) (good : Faultless (sheet bs)) where
 
   pub sheet_holds : sheet bs ≡ Ok (filter_map count_of (records 0 bs), filter_map event_of (records 0 bs))
   sheet_holds = whole ∙ meaning_holds bs (rw whole at good)
+
+  -- all counts stand at the front
+  pub sheet_leads : sheet bs ≡ Ok (filter_map count_of (take_while is_count (records 0 bs)), filter_map event_of (records 0 bs))
+  sheet_leads = whole ∙ meaning_leads bs (rw whole at good)
 
 pub passed : {P : Type 0} (Q : ℕ → Type 0) (r : Result Unit ℕ) → true ≡ is_ok r → MatchResult r (λ _. P) Q → P
 passed Q (Ok u) e h = h

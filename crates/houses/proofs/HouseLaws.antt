@@ -1,6 +1,7 @@
 -- House counts rise and stay small, so their costs fit and they keep what they vouch for.
 use Rattle.std.proofs.Common.{◌≡◌, ℕ, zero, suc, pred, ◌+◌, ◌-◌, ◌*◌, ◌<◌, ◌≤◌, true, false, Some, None, Option, List, length, get_or, slice_range, get_or-take, get_or-drop, refl, ap, add-zero, mul-le-mul_right, mul-le-mul, mul-add, arith, le→leb}
 use Rattle.std.specs.Option.{MatchOption}
+use Rattle.std.proofs.lemmas.List.{get_or_read}
 use Rattle.std.proofs.lemmas.Bool.{or_parts, ltb-false}
 use Rattle.costs.specs.Numbers.{numbers}
 use Rattle.sources.specs.Scales.{Sound}
@@ -46,6 +47,13 @@ module _ (F : List ℕ) (valid : Counts F) where
       let s : get_or F y 0 - get_or F x 0 ≤ 200000 = omega (arith, small y h) in
       let m : tape F x y ≤ 4608 * 200000 = mul-le-mul p s in
       m
+
+  -- the same of counts that were read
+  pub read_rises : (x y a b : ℕ) → x ≤ y → y < length F → a ≡ get_or F x a → b ≡ get_or F y b → a ≤ b
+  read_rises x y a b i h e f = omega (arith, rises x y i h, get_or_read F x a (omega arith) e 0, get_or_read F y b h f 0)
+
+  pub read_tape : (x y a b p : ℕ) → x ≤ y → y < length F → a ≡ get_or F x a → b ≡ get_or F y b → p ≡ price y → p * (b - a) ≡ tape F x y
+  read_tape x y a b p i h e f q = let e' = get_or_read F x a (omega arith) e 0 in let f' = get_or_read F y b h f 0 in cc
 
   module _ (x y : ℕ) (class : List ℕ) (h : y < length F) (part : class ≡ slice_range F x (y + 1)) (long : length class + x ≡ y + 1) (some : 0 < length class) where
     first_is : get_or class 0 0 ≡ get_or F x 0

@@ -59,8 +59,11 @@ impl HouseCounts {
         ensures reply { MatchOption result (x ≤ y → y ≤ pred (length self.now) → ⊥) (λ t. (x ≤ y) × (y ≤ pred (length self.now)) × (t ≡ tape self.now x y)) }
         ensures valid { Counts self.now }
     {
-        let class = self.counts.get(x as usize..=y as usize)?;
-        let scans = class.last()? - class.first()?;
+        let up_to_y = *self.counts.get(y as usize)?;
+        if x > y {
+            return None;
+        }
+        let scans = up_to_y - self.counts[x as usize];
         Some(price(y)? * scans)
     }
 }

@@ -9,6 +9,7 @@ use Rattle.calls.specs.declared.answer.Answer.{Answer}
 use Rattle.calls.specs.declared.answer.Answer.TheVariants.{Accepted, Counted, Looked}
 use Rattle.calls.specs.declared.answer.View.{View}
 use Rattle.calls.specs.declared.call.Call.{Call}
+pub use Rattle.steps.specs.Cuts.{in_use}
 use Rattle.jobs.specs.declared.job.Job.{Job}
 use Rattle.jobs.specs.declared.plan.Plan.{Plan}
 use Rattle.jobs.specs.declared.record.Moment.{Moment}

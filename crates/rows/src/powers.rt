@@ -9,5 +9,11 @@ pub fn power_count(q: usize) -> usize
     requires { (0 < q) × (q ≤ 4097) }
     ensures { result ≡ suc (log2 12 q) }
 {
-    q.ilog2() as usize + 1
+    let mut count = 0;
+    for power in POWERS {
+        if power <= q {
+            count += 1;
+        }
+    }
+    count
 }

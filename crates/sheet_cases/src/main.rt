@@ -2,10 +2,10 @@
 // for each, the text that the planner prints for it goes to standard output, and then a line `--`.
 #![tactic(auto)]
 
-ghost use Rattle.std.specs.Prelude.{◌≡◌, ℕ, [], ◌∷◌, ◌/◌, ◌%◌, ◌<◌, IfOk, MatchOption, ◌≢◌};
+ghost use Rattle.std.specs.Prelude.{◌≡◌, ℕ, ◌/◌, ◌%◌, ◌<◌, IfOk, MatchOption, ◌≢◌};
 ghost use Rattle.sheet_cases.specs.Spelled.{digit, spelled};
 
-use anyhow::{Context, bail};
+use anyhow::bail;
 use sheets::answer;
 use std::alloc::Global;
 use std::io::{BufRead, BufReader};
@@ -28,23 +28,24 @@ fn byte_value(high: u8, low: u8) -> Option<u8>
     Some(digit_value(high)? * 16 + digit_value(low)?)
 }
 
-// The byte that two digits spell.
-fn spelled_byte(digits: &[u8]) -> anyhow::Result<u8>
-    ensures { IfOk result (λ byte. spelled (byte ∷ []) ≡ digits.now) }
-{
-    let [high, low] = digits else {
-        bail!("a line has an odd number of digits");
-    };
-    byte_value(*high, *low).context("a line has a sign that is no hexadecimal digit")
-}
-
 // The bytes that a line spells.
 fn spelled_bytes(heap: Global, line: &[u8]) -> anyhow::Result<Vec<u8>>
     ensures { IfOk result (λ v. spelled v.items ≡ line.now) }
 {
-    line.chunks(2)
-        .map(|digits| spelled_byte(digits))
-        .try_collect(heap)
+    let pairs = line.chunks_exact(2);
+    let tail = pairs.remainder();
+    let mut bytes = Vec::new(heap);
+    // An `anyhow::Result` is some 280 bytes: one for each byte of the line would take most of the time.
+    for pair in pairs {
+        let Some(byte) = byte_value(pair[0], pair[1]) else {
+            bail!("a line has a sign that is no hexadecimal digit");
+        };
+        bytes.push(byte)?;
+    }
+    if !tail.is_empty() {
+        bail!("a line has an odd number of digits");
+    }
+    Ok(bytes)
 }
 
 // Prints the text for the sheet that a line spells.

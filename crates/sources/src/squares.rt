@@ -66,7 +66,8 @@ pub fn first_too_large<S: Source>(source: &S) -> Option<(u32, u32)>
     ensures value { result ≡ first_large S.Kind.Kind.costs (meant S.Kind.Kind S.Source source.now) }
     ensures sized { result ≡ None → Sized S.Kind.Kind.costs (meant S.Kind.Kind S.Source source.now) largest }
 {
-    first_pair(source.end(), |x, y| is_too_large(source, x, y))
+    let (from, to) = first_pair(source.end(), |x, y| is_too_large(source, x, y))?;
+    Some((from, to))
 }
 
 // Does the square (i, j) hold?
@@ -85,6 +86,7 @@ pub fn first_broken_square<S: Source>(source: &S) -> Option<(u32, u32)>
     ensures squares { result ≡ None → Squares S.Kind.Kind.costs (meant S.Kind.Kind S.Source source.now) }
     ensures glebov { result ≡ None → Sized S.Kind.Kind.costs (meant S.Kind.Kind S.Source source.now) largest → Glebov S.Kind.Kind.costs (meant S.Kind.Kind S.Source source.now) }
 {
-    let end = source.end();
-    first_pair(end, |i, j| i < j && j < end && !square_holds(source, i, j))
+    let last = source.end().checked_sub(1)?;
+    let (i, j) = first_pair(last, |i, j| i < j && !square_holds(source, i, j))?;
+    Some((i, j))
 }

@@ -1,6 +1,6 @@
 use Rattle.std.proofs.Common.{Ok, Err, sym, ap, ◌∙◌}
 use Rattle.std.proofs.lemmas.Result.{err_from_is_err_and}
-use Rattle.decoder.proofs.Limits.{passed, sheet_holds, wants_memory}
+use Rattle.decoder.proofs.Limits.{passed, sheet_leads, wants_memory}
 use Rattle.decoder.proofs.decoding.decode.Goals as goal
 
 pub returns-in_err-sheet_of : goal.returns-in_err-sheet_of
@@ -10,5 +10,5 @@ returns-in_err-sheet_of c =
 
 pub returns : goal.returns
 returns c =
-    sheet_holds c.args.bytes.now (passed _ c.check.result c.in_ok-map_err.ensures.variant c.check.ensures)
+    sheet_leads c.args.bytes.now (passed _ c.check.result c.in_ok-map_err.ensures.variant c.check.ensures)
     ∙ ap Ok (λ i. (sym c.in_ok-sheet_of.ensures.0 i, sym c.in_ok-sheet_of.ensures.1 i))
