@@ -11,9 +11,10 @@ pub fn power_count(q: usize) -> usize
 {
     let mut count = 0;
     for power in POWERS {
-        if power <= q {
-            count += 1;
+        if power > q {
+            break;
         }
+        count += 1;
     }
     count
 }
